@@ -19,31 +19,31 @@ use Rattle.b3d_check_absent_words.specs.Zeros.{every_at, zeros_at, sets_clean, r
 
 -- ---- a loop over places
 
--- of n places from `first` on, those from p on are left
-pub record EveryLeft (f : ℕ → Bool) (far n first room : ℕ) (ok : Bool) (p left : ℕ) : Type 0 where
-  pub there : p + left * far ≤ room
-  pub rest : (ok && every_at f far left p) ≡ every_at f far n first
+next_place : (i far first : ℕ) → first + i * far + far ≡ first + (i + 1) * far
+next_place i far first = let e : i + 1 ≡ suc i = omega arith in rw e (omega (arith, suc-mul i far))
 
-module _ (f : ℕ → Bool) (far n first room : ℕ) where
-  pub every_none : first + n * far ≤ room → EveryLeft f far n first room true first n
-  every_none h = record { there = h; rest = refl }
+-- of n places from `first` on, i are passed, and ok says whether f holds at those
+pub record EveryFrom (f : ℕ → Bool) (far n first : ℕ) (ok : Bool) (i : ℕ) : Type 0 where
+  pub within : i ≤ n
+  pub rest : (ok && every_at f far (n - i) (first + i * far)) ≡ every_at f far n first
 
-  module _ (ok : Bool) (p left : ℕ) (v : EveryLeft f far n first room ok p left) where
-    pub every_done : left ≤ 0 → ok ≡ every_at f far n first
+module _ (f : ℕ → Bool) (far n first : ℕ) where
+  pub every_none : EveryFrom f far n first true 0
+  every_none = let e : first + 0 * far ≡ first = omega arith in let z : n - 0 ≡ n = omega arith in record { within = omega arith; rest = rw (e, z) }
+
+  module _ (ok : Bool) (i : ℕ) (v : EveryFrom f far n first ok i) where
+    pub every_done : n ≤ i → ok ≡ every_at f far n first
     unfolding every_at
-    every_done h = let z : left ≡ 0 = omega arith in sym (and_true ok) ∙ rw z at v.rest
+    every_done h = let z : n - i ≡ 0 = omega arith in sym (and_true ok) ∙ rw z at v.rest
 
-    pub every_next : 0 < left → (one : Bool) → one ≡ f p → EveryLeft f far n first room (ok && one) (p + far) (left - 1)
+    pub every_next : i < n → (one : Bool) (p : ℕ) → one ≡ f p → p ≡ first + i * far → EveryFrom f far n first (ok && one) (i + 1)
     unfolding every_at
-    every_next h one e =
-        let z : left ≡ suc (left - 1) = omega arith in
-        let k : left * far ≡ (left - 1) * far + far = ap (λ (i : ℕ). i * far) z ∙ suc-mul (left - 1) far in
-        record { there = omega (arith, v.there); rest = and_assoc ok one (every_at f far (left - 1) (p + far)) ∙ rw (z, ← e) at v.rest }
+    every_next h one p e q =
+        let z : n - i ≡ suc (n - (i + 1)) = omega arith in
+        let k : first + i * far + far ≡ first + (i + 1) * far = next_place i far first in
+        record { within = omega arith; rest = and_assoc ok one (every_at f far (n - (i + 1)) (first + (i + 1) * far)) ∙ (rw (e, q, ← k) (rw z at v.rest)) }
 
-pub zeros_none : (ws : List ℕ) (n first : ℕ) → first + n ≤ length ws → EveryLeft (λ p. eqb (get_or ws p 0) 0) 1 n first (length ws) true first n
-zeros_none ws n first h = every_none (λ p. eqb (get_or ws p 0) 0) 1 n first (length ws) (omega arith)
-
-pub ruleset every_laws = (zeros_none, every_none, every_done, every_next)
+pub ruleset every_laws = (every_none, every_done, every_next)
 
 -- ---- so many words, by their number
 

@@ -21,12 +21,8 @@ fn zeros(t: &[u32], at: usize, n: usize) -> bool
     ensures { result ≡ zeros_at n t.now at }
 {
     let mut ok = true;
-    let mut p = at;
-    let mut left = n;
-    while 0 < left {
-        ok = ok & (t[p] == 0);
-        p += 1;
-        left -= 1;
+    for i in 0..n {
+        ok = ok & (t[at + i] == 0);
     }
     ok
 }
@@ -65,12 +61,8 @@ fn sets_clean(t: &[u32], at: usize, sets: usize, size: usize) -> bool
     ensures { result ≡ sets_clean sets size t.now at }
 {
     let mut ok = true;
-    let mut p = at;
-    let mut left = sets;
-    while 0 < left {
-        ok = ok & few_zeros(t, p + size, 4 - size);
-        p += 4;
-        left -= 1;
+    for i in 0..sets {
+        ok = ok & few_zeros(t, at + 4 * i + size, 4 - size);
     }
     ok
 }
@@ -110,13 +102,10 @@ fn keys_clean(g: RowRuns, t: &[u32], first: usize, count: usize) -> bool
     requires { Short g × OfKey g × (width g ≡ key_width) × (key_width * (first + count) ≤ length t.now) }
     ensures { result ≡ all (clean (run_mask g)) (rows_at key_width first count t.now) }
 {
-    let end = first + count;
-    let mut i = first;
-    while i < end {
+    for i in first..first + count {
         if !key_clean(g, t, KEY_WIDTH * i) {
             return false;
         }
-        i += 1;
     }
     true
 }
@@ -126,13 +115,10 @@ fn vertices_clean(g: RowRuns, t: &[u32], first: usize, count: usize) -> bool
     requires { Short g × OfVertex g × (width g ≡ vertex_width) × (vertex_width * (first + count) ≤ length t.now) }
     ensures { result ≡ all (clean (run_mask g)) (rows_at vertex_width first count t.now) }
 {
-    let end = first + count;
-    let mut i = first;
-    while i < end {
+    for i in first..first + count {
         if !vertex_clean(g, t, VERTEX_WIDTH * i) {
             return false;
         }
-        i += 1;
     }
     true
 }

@@ -28,12 +28,10 @@ fn rows_coloured(t: &[u32], width: usize, word: usize, count: usize) -> bool
     requires { (word + 4 ≤ width) × (width * count ≤ length t.now) }
     ensures { result ≡ all (coloured word) (rows_at width 0 count t.now) }
 {
-    let mut i: usize = 0;
-    while i < count {
+    for i in 0..count {
         if !row_coloured(t, width, word, i) {
             return false;
         }
-        i += 1;
     }
     true
 }

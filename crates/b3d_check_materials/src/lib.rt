@@ -16,13 +16,11 @@ pub fn textures_valid(names: &[u8], t: &[u32], count: usize) -> bool
     requires { texture_width * count ≤ length t.now }
     ensures { result ≡ all (name_valid names.now) (rows_at texture_width 0 count t.now) }
 {
-    let mut i: usize = 0;
-    while i < count {
+    for i in 0..count {
         let o = TEXTURE_WIDTH * i;
         if !b3d_check_rows::name_valid(names, t[o], t[o + columns::NAME_LENGTH]) {
             return false;
         }
-        i += 1;
     }
     true
 }
@@ -32,16 +30,9 @@ fn ids_valid(t: &[u32], textures: u32, place: usize, count: usize) -> bool
     requires { place + count ≤ length t.now }
     ensures { result ≡ all (holds (texture_id textures)) (take count (drop place t.now)) }
 {
-    let end = place + count;
-    let mut i = place;
-    while i < end {
-        let one = t[i];
-        if !((one == 0xFFFFFFFF) | (one < textures)) {
-            return false;
-        }
-        i += 1;
-    }
-    true
+    t[place..place + count]
+        .iter()
+        .all(|id| (*id == 0xFFFFFFFF) | (*id < textures))
 }
 
 // Returns whether row `i` of table 2, `t`, is sound: its name is in `names`, its first `slots` ids are NONE or below `textures`, the unused ones NONE.
@@ -65,12 +56,10 @@ pub fn brushes_valid(names: &[u8], slots: u32, textures: u32, t: &[u32], count: 
     requires { (slots ≤ most_slots) × (brush_width * count ≤ length t.now) }
     ensures { result ≡ all (brush_valid names.now slots textures) (rows_at brush_width 0 count t.now) }
 {
-    let mut i: usize = 0;
-    while i < count {
+    for i in 0..count {
         if !brush_valid(names, slots, textures, t, i) {
             return false;
         }
-        i += 1;
     }
     true
 }

@@ -4,15 +4,17 @@ use native.Mathlib.Numerals.{add-one}
 use native.Mathlib.Omega.{arith}
 use mathlib.Core.Path.{◌≡◌, refl, sym, ap, ◌∙◌}
 use mathlib.Core.Logic.{◌≢◌}
-use mathlib.Core.Bool.{true, false, not, ◌&&◌}
+use mathlib.Core.Bool.{Bool, true, false, ◌&&◌}
 use mathlib.Core.List.{List, [], ◌∷◌}
-use lib.ListN.{length, get_or, set}
-use lib.Seq.{get_or-set_same, get_or-set_other}
+use lib.ListN.{length, get_or, set, take}
+use lib.Seq.{get_or-set_same, get_or-set_other, take-suc}
 use lib.Dec.{eqb}
-use borrow.Author.Tests.{not-true, not-false, eq-eqb, ne_eqb}
+use borrow.Author.Tests.{eq-eqb, ne_eqb}
+use Rattle.std.specs.List.{list_all}
+use Rattle.std.proofs.lemmas.List.Folds.{list_all-append}
 use Rattle.wire.specs.Test.{if}
 use Rattle.b3d_check_spec.specs.Check.{up_to, all_end, bone_limit_of}
-use Rattle.b3d_check_parents.specs.Path.{path_of, CutTo, Ending}
+use Rattle.b3d_check_parents.specs.Path.{path_of, CutTo}
 
 -- ---- a path up to one of its nodes
 
@@ -42,49 +44,43 @@ module _ (a e : List ℕ) (depth i p : ℕ) where
       unfolding up_to
       step v = rw (path-step a e v d h)
 
-      pub cut-found : not (eqb p (get_or a (d - 1) 0)) ≡ false → CutTo a e depth i p d
+      pub cut-found : get_or a (d - 1) 0 ≡ p → CutTo a e depth i p (d - 1 + 1)
       unfolding if
-      cut-found k = record { low = f.within; is = λ v. path-step a e v d h ∙ sym (rw (not-false (eqb p (get_or a (d - 1) 0)) k) at (step v)) ∙ f.rest v }
+      cut-found k =
+          let z : d - 1 + 1 ≡ d = omega arith in
+          rw z
+          record { low = f.within; is = λ v. path-step a e v d h ∙ sym (rw (eq-eqb p (get_or a (d - 1) 0) (sym k)) at (step v)) ∙ f.rest v }
 
-      module _ (k : not (eqb p (get_or a (d - 1) 0)) ≡ true) where
-        pub cut_wrong : not (eqb (get_or e (d - 1) 0) i) ≡ true → CutTo a e depth i p 0
+      module _ (k : get_or a (d - 1) 0 ≡ p → ⊥) where
+        other : eqb p (get_or a (d - 1) 0) ≡ false
+        other = ne_eqb p (get_or a (d - 1) 0) (λ q. k (sym q))
+
+        pub cut_wrong : (get_or e (d - 1) 0 ≡ i → ⊥) → CutTo a e depth i p 0
         unfolding if path_of
-        cut_wrong l = record { low = omega arith; is = λ v. sym (rw (not-true (eqb p (get_or a (d - 1) 0)) k, not-true (eqb (get_or e (d - 1) 0) i) l) at (step v)) ∙ f.rest v }
+        cut_wrong l = record { low = omega arith; is = λ v. sym (rw (other, ne_eqb (get_or e (d - 1) 0) i l) at (step v)) ∙ f.rest v }
 
-        pub cut-next : not (eqb (get_or e (d - 1) 0) i) ≡ false → CutFrom a e depth i p (d - 1)
+        pub cut-next : get_or e (d - 1) 0 ≡ i → CutFrom a e depth i p (d - 1)
         unfolding if
-        cut-next l = record { within = omega (arith, f.within); rest = λ v. sym (rw (not-true (eqb p (get_or a (d - 1) 0)) k, not-false (eqb (get_or e (d - 1) 0) i) l) at (step v)) ∙ f.rest v }
+        cut-next l = record { within = omega (arith, f.within); rest = λ v. sym (rw (other, eq-eqb (get_or e (d - 1) 0) i l) at (step v)) ∙ f.rest v }
 
 pub ruleset cut_laws = (cut-none, cut-end, cut-found, cut_wrong, cut-next)
 
 -- ---- the ends of a path
 
--- the levels from d on end at row i
-pub record EndFrom (e : List ℕ) (depth i d : ℕ) : Type 0 where
-  pub within : d ≤ depth
-  pub rest : (a v : List ℕ) → all_end i (path_of a e v d) ≡ all_end i (path_of a e v depth)
+turned : (a b : Bool) → (a && (b && true)) ≡ (b && a)
+turned true true = refl
+turned true false = refl
+turned false true = refl
+turned false false = refl
 
-module _ (e : List ℕ) (depth i : ℕ) where
-  pub ends_none : EndFrom e depth i depth
-  ends_none = record { within = omega arith; rest = λ a v. refl }
-
-  module _ (d : ℕ) (f : EndFrom e depth i d) where
-    pub ends_all : d ≤ 0 → Ending e depth i true
-    unfolding path_of all_end
-    ends_all h = let z : d ≡ 0 = omega arith in record { is = λ a v. rw z at (f.rest a v) }
-
-    module _ (h : 0 < d) where
-      ends_step : (a v : List ℕ) → all_end i (path_of a e v d) ≡ (eqb (get_or e (d - 1) 0) i && all_end i (path_of a e v (d - 1)))
-      unfolding all_end
-      ends_step a v = rw (path-step a e v d h)
-
-      pub ends_wrong : not (eqb (get_or e (d - 1) 0) i) ≡ true → Ending e depth i false
-      ends_wrong l = record { is = λ a v. sym (rw (not-true (eqb (get_or e (d - 1) 0) i) l) at (ends_step a v)) ∙ f.rest a v }
-
-      pub ends_next : not (eqb (get_or e (d - 1) 0) i) ≡ false → EndFrom e depth i (d - 1)
-      ends_next l = record { within = omega (arith, f.within); rest = λ a v. sym (rw (not-false (eqb (get_or e (d - 1) 0) i) l) at (ends_step a v)) ∙ f.rest a v }
-
-pub ruleset ends_laws = (ends_none, ends_all, ends_wrong, ends_next)
+-- the levels end at row i where their ends, the root's first, are i
+pub ends_are : (e : List ℕ) (i d : ℕ) → d ≤ length e → (a v : List ℕ) → list_all (λ x. eqb x i) (take d e) ≡ all_end i (path_of a e v d)
+unfolding path_of all_end
+ends_are e i zero h a v = refl
+ends_are e i (suc d) h a v =
+    let x = get_or e d 0 in
+    rw (take-suc e d 0 (omega arith), list_all-append (λ y. eqb y i) (take d e) (x ∷ []), ends_are e i d (omega arith) a v)
+    (turned (all_end i (path_of a e v d)) (eqb x i))
 
 -- ---- a path with a level more
 

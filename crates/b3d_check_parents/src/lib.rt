@@ -16,17 +16,12 @@ pub fn up_to(path: &[usize], ends: &[usize], depth: usize, i: usize, p: usize) -
     requires { (depth ≤ length path.now) × (depth ≤ length ends.now) }
     ensures { CutTo path.now ends.now depth i p result }
 {
-    let mut d = depth;
-    while 0 < d {
-        let one = path[d - 1];
-        if !(p == one) {
-            let end = ends[d - 1];
-            if !(end == i) {
-                return 0;
-            }
-            d -= 1;
-        } else {
-            return d;
+    for d in (0..depth).rev() {
+        if path[d] == p {
+            return d + 1;
+        }
+        if ends[d] != i {
+            return 0;
         }
     }
     0
@@ -37,15 +32,7 @@ pub fn all_end(ends: &[usize], depth: usize, i: usize) -> bool
     requires { depth ≤ length ends.now }
     ensures { Ending ends.now depth i result }
 {
-    let mut d = depth;
-    while 0 < d {
-        let end = ends[d - 1];
-        if !(end == i) {
-            return false;
-        }
-        d -= 1;
-    }
-    true
+    ends[..depth].iter().all(|end| *end == i)
 }
 
 // Returns the parent cell of node `i`.

@@ -86,10 +86,8 @@ pub fn groups_valid(
     ensures { result ≡ groups_valid (run_test run) from (rows_at 4 first count t.now)
         (rows_at (run_width run) from (total - from) items.now) }
 {
-    let end = first + count;
     let mut r = from;
-    let mut i = first;
-    while i < end {
+    for i in first..first + count {
         let to = b3d_check_rows::cell(t, 4 * i + columns::GROUP_FIRST);
         let many = b3d_check_rows::cell(t, 4 * i + columns::GROUP_COUNT);
         if !(to == r) {
@@ -102,7 +100,6 @@ pub fn groups_valid(
             return false;
         }
         r += many;
-        i += 1;
     }
     true
 }
@@ -112,15 +109,13 @@ pub fn lists_of(node: usize, t: &[u32], first: usize, total: usize) -> usize
     requires { (first ≤ total) × (key_list_width * total ≤ length t.now) }
     ensures { MineTo node first total t.now result }
 {
-    let mut i = first;
-    while i < total {
+    for i in first..total {
         let own = b3d_check_rows::cell(t, KEY_LIST_WIDTH * i);
         if !(own == node) {
             return i;
         }
-        i += 1;
     }
-    i
+    total
 }
 
 // Returns the number behind the last item of the `count` rows from row `first` on, the first item being number `from`.
@@ -128,13 +123,10 @@ pub fn end_of(t: &[u32], first: usize, count: usize, from: usize) -> usize
     requires { (4 * (first + count) ≤ length t.now) × (end_of from (rows_at 4 first count t.now) ≤ 0xFFFFFFFF) }
     ensures { result ≡ end_of from (rows_at 4 first count t.now) }
 {
-    let end = first + count;
     let mut r = from;
-    let mut i = first;
-    while i < end {
+    for i in first..first + count {
         let many = b3d_check_rows::cell(t, 4 * i + columns::GROUP_COUNT);
         r += many;
-        i += 1;
     }
     r
 }

@@ -27,16 +27,7 @@ fn text_valid(names: &[u8], place: usize, count: usize) -> bool
     requires { place + count ≤ length names.now }
     ensures { result ≡ all (λ b. ltb 0 b) (take count (drop place names.now)) }
 {
-    let end = place + count;
-    let mut i = place;
-    while i < end {
-        let one = names[i];
-        if !(0 < one) {
-            return false;
-        }
-        i += 1;
-    }
-    true
+    names[place..place + count].iter().all(|b| 0 < *b)
 }
 
 // Returns whether the name of `count` bytes at `place` lies in `names`, with no zero inside.
@@ -93,13 +84,10 @@ pub fn id_rows_valid(ids: Ids, t: &[u32], v: u32, first: usize, count: usize) ->
     requires { id_width ids * (first + count) ≤ length t.now }
     ensures { result ≡ all (keeps (id_row ids v)) (rows_at (id_width ids) first count t.now) }
 {
-    let end = first + count;
-    let mut i = first;
-    while i < end {
+    for i in first..first + count {
         if !id_row_valid(ids, t, v, i) {
             return false;
         }
-        i += 1;
     }
     true
 }

@@ -1,4 +1,6 @@
 -- Unknown chunks are passed over: what a header makes of the chunks that are left, and the answers of `next_chunk`.
+use Rattle.std.specs.Prelude.{Some, None}
+use Rattle.std.specs.Prelude as std
 use Prim.Native.Nat.{ℕ, ◌+◌, ◌≤◌}
 use native.Mathlib.Omega.{arith}
 use native.Mathlib.Nat.{le_refl}
@@ -19,8 +21,6 @@ use Rattle.layout.proofs.ChunkLaws.{split-none, split-short, split-past, split-k
 use Rattle.b3d_spec.specs.declared.Tag.{Tag}
 use Rattle.b3d_spec.specs.Tags.{tag_of, split}
 use Rattle.b3d_chunk_cursor.specs.Chunks.{tagged, NextIs}
-use Rattle.b3d_chunk_cursor.specs.declared.Tagged.{Tagged}
-use Rattle.b3d_chunk_cursor.specs.declared.Tagged.TheVariants as tags
 use Rattle.b3d_chunk_cursor.specs.declared.Next.TheVariants as next
 use Rattle.b3d_chunk_cursor.proofs.TagLaws.{known-tag, other_tag}
 
@@ -95,8 +95,8 @@ module _ (s : List ℕ) (from c : Cursor) (p : Passed s from c) (r : Header) (e 
   pub next-cut : r ≡ header.Cut → NextIs s from (next.Cut c.at)
   next-cut w = record { says = p.rest ∙ split-cut s c p.inside (sym e ∙ w); among = omega arith }
 
-  module _ (t : ℕ) (b n : Cursor) (w : r ≡ header.Whole t b n) (g : Tagged) (h : g ≡ tagged (tag_of t)) where
-    pub next_known : (k : Tag) → g ≡ tags.Known k → NextIs s from (next.Chunk k c.at b n)
+  module _ (t : ℕ) (b n : Cursor) (w : r ≡ header.Whole t b n) (g : std.Option Tag) (h : g ≡ tagged (tag_of t)) where
+    pub next_known : (k : Tag) → g ≡ Some k → NextIs s from (next.Chunk k c.at b n)
     next_known k q =
         let f = framed s c t b n (sym e ∙ w) in
         record {
@@ -104,7 +104,7 @@ module _ (s : List ℕ) (from c : Cursor) (p : Passed s from c) (r : Header) (e 
           among = record { from = p.after; body = f.body; room = f.room; after = f.after; to = omega arith; same = f.same ∙ p.same };
         }
 
-    pub pass_one : g ≡ tags.Other → Passed s from n
+    pub pass_one : g ≡ None → Passed s from n
     pass_one q =
         let f = framed s c t b n (sym e ∙ w) in
         record {

@@ -1,26 +1,22 @@
 -- The next known chunk, and a text with its row.
-use Rattle.std.specs.Prelude.{◌≡◌, ℕ, ◌+◌, ◌-◌, ◌*◌, ◌≤◌, List, ltb}
+use Rattle.std.specs.Prelude as std
+use Rattle.b3d_chunk_cursor.specs.declared.Named.{Named}
+use Rattle.std.specs.Prelude.{◌≡◌, ℕ, ◌+◌, ◌-◌, ◌*◌, ◌≤◌, List, ltb, Some, None}
 use Rattle.std.proofs.Math.Option.{Option, none, some}
 use Rattle.wire.specs.Test.{if}
 use Rattle.wire.specs.Cursors.{left, text_at}
 use Rattle.wire.specs.declared.Cursor.{Cursor}
-use Rattle.wire.specs.declared.Text.{Text}
-use Rattle.wire.specs.declared.Text.TheVariants as text
 use Rattle.layout.specs.Chunks.{done, stop, chunk}
 use Rattle.layout.specs.Refusals as refusals
 use Rattle.b3d_spec.specs.declared.Tag.{Tag}
 use Rattle.b3d_spec.specs.Tags.{Chunks, split}
-use Rattle.b3d_chunk_cursor.specs.declared.Tagged.{Tagged}
-use Rattle.b3d_chunk_cursor.specs.declared.Tagged.TheVariants as tags
 use Rattle.b3d_chunk_cursor.specs.declared.Next.{Next}
 use Rattle.b3d_chunk_cursor.specs.declared.Next.TheVariants as next
-use Rattle.b3d_chunk_cursor.specs.declared.Named.{Named}
-use Rattle.b3d_chunk_cursor.specs.declared.Named.TheVariants as named
 
--- a tag, if it is known, as `Tagged` has it
-abbrev pub tagged : Option Tag → Tagged
-tagged none = tags.Other
-tagged (some t) = tags.Known t
+-- a tag, if it is known, as code holds it
+abbrev pub tagged : Option Tag → std.Option Tag
+tagged none = None
+tagged (some t) = Some t
 
 -- the chunks that an answer on s stands for: the one found, and those after it
 abbrev pub chunks_of : List ℕ → Next → Chunks
@@ -56,13 +52,14 @@ pub record NextIs (s : List ℕ) (c : Cursor) (r : Next) : Type 0 where
   -- the parts of r stand among the bytes of c
   pub among : NextIn c r
 
--- a text that was read and `words` words after it; Cut where they are not all there
-unfoldable pub named_by : ℕ → Text → Named
-named_by words text.Cut = named.Cut
-named_by words (text.Is len w) = if (ltb (w.end - w.at) (4 * words)) named.Cut (named.Is len w (record { at = w.at + 4 * words; end = w.end }))
+-- a text that was read and `words` words after it; None where they are not all there
+unfoldable pub named_by : ℕ → std.Option (ℕ × Cursor) → std.Option Named
+named_by words None = None
+named_by words (Some (len, w)) =
+    if (ltb (w.end - w.at) (4 * words)) None (Some (record { length = len; row = w; next = record { at = w.at + 4 * words; end = w.end } }))
 
--- the text of s at c and `words` words after it; Cut where they are not all there
-unfoldable pub named_at : List ℕ → Cursor → ℕ → Named
+-- the text of s at c and `words` words after it; None where they are not all there
+unfoldable pub named_at : List ℕ → Cursor → ℕ → std.Option Named
 named_at s c words = named_by words (text_at s c)
 
 -- a text of len bytes at c, the cursor w at the words behind its zero, and the cursor n after the `words` words
@@ -74,6 +71,6 @@ pub record RowIn (c : Cursor) (len : ℕ) (w n : Cursor) (words : ℕ) : Type 0 
   pub same : n.end ≡ c.end
 
 -- where the parts of an answer on a text at c and `words` words stand
-abbrev pub NamedIn : Cursor → ℕ → Named → Type 0
-NamedIn c words (named.Is len w n) = RowIn c len w n words
-NamedIn c words named.Cut = Unit {0}
+abbrev pub NamedIn : Cursor → ℕ → std.Option Named → Type 0
+NamedIn c words (Some f) = RowIn c f.length f.row f.next words
+NamedIn c words None = Unit {0}

@@ -7,31 +7,24 @@ ghost use Rattle.b3d_spec.specs.Tags.{code, is, tag_of};
 ghost use Rattle.b3d_chunk_cursor.specs.Chunks.{tagged, NextIs, named_at, NamedIn};
 
 use b3d_spec::{Tag, letters};
-use wire::{Cursor, Header, Text};
+use wire::{Cursor, Header};
 
-// A known tag, or another: `Other`.
-#[derive(Clone, Copy)]
-pub enum Tagged {
-    Known(Tag),
-    Other,
-}
-
-// Returns the known tag with the letters `n`, or `Other` where there is none.
-pub fn tag_of(n: u32) -> Tagged
+// Returns the known tag with the letters `n`, or `None` where there is none.
+pub fn tag_of(n: u32) -> Option<Tag>
     ensures { result ≡ tagged (tag_of n) }
 {
     match n {
-        letters::BB3D => Tagged::Known(Tag::BB3D),
-        letters::TEXS => Tagged::Known(Tag::TEXS),
-        letters::BRUS => Tagged::Known(Tag::BRUS),
-        letters::NODE => Tagged::Known(Tag::NODE),
-        letters::MESH => Tagged::Known(Tag::MESH),
-        letters::VRTS => Tagged::Known(Tag::VRTS),
-        letters::TRIS => Tagged::Known(Tag::TRIS),
-        letters::BONE => Tagged::Known(Tag::BONE),
-        letters::KEYS => Tagged::Known(Tag::KEYS),
-        letters::ANIM => Tagged::Known(Tag::ANIM),
-        _ => Tagged::Other,
+        letters::BB3D => Some(Tag::BB3D),
+        letters::TEXS => Some(Tag::TEXS),
+        letters::BRUS => Some(Tag::BRUS),
+        letters::NODE => Some(Tag::NODE),
+        letters::MESH => Some(Tag::MESH),
+        letters::VRTS => Some(Tag::VRTS),
+        letters::TRIS => Some(Tag::TRIS),
+        letters::BONE => Some(Tag::BONE),
+        letters::KEYS => Some(Tag::KEYS),
+        letters::ANIM => Some(Tag::ANIM),
+        _ => None,
     }
 }
 
@@ -88,7 +81,7 @@ pub fn next_chunk(s: &[u8], from: Cursor) -> Next
                 return Next::Cut(c.at);
             }
             Header::Whole { tag, body, next } => match tag_of(tag) {
-                Tagged::Known(t) => {
+                Some(t) => {
                     return Next::Chunk {
                         tag: t,
                         at: c.at,
@@ -96,7 +89,7 @@ pub fn next_chunk(s: &[u8], from: Cursor) -> Next
                         next,
                     };
                 }
-                Tagged::Other => {
+                None => {
                     c = next;
                 }
             },
@@ -104,38 +97,33 @@ pub fn next_chunk(s: &[u8], from: Cursor) -> Next
     }
 }
 
-// A text's length without its zero, a cursor at the words that follow it, and the cursor after those; or `Cut`: not all of it is there.
+// A text's length without its zero, a cursor at the words that follow it, and the cursor after those.
 #[derive(Clone, Copy)]
-pub enum Named {
-    Is {
-        length: usize,
-        row: Cursor,
-        next: Cursor,
-    },
-    Cut,
+pub struct Named {
+    pub length: usize,
+    pub row: Cursor,
+    pub next: Cursor,
 }
 
-// Reads a text of `s` at `c` and the `words` words behind it. Returns where they stand, or `Cut` where they are not all there.
-pub fn named_row(s: &[u8], c: Cursor, words: usize) -> Named
+// Reads a text of `s` at `c` and the `words` words behind it. Returns where they stand, or `None` where they are not all there.
+pub fn named_row(s: &[u8], c: Cursor, words: usize) -> Option<Named>
     requires { Inside c (length s.now) × (words ≤ 64) }
     ensures { (result ≡ named_at s.now c words) × NamedIn c words result }
 {
-    match c.text(s) {
-        Text::Cut => Named::Cut,
-        Text::Is(length, row) => {
-            let at = row.at;
-            let end = row.end;
-            if end - at < 4 * words {
-                return Named::Cut;
-            }
-            Named::Is {
-                length,
-                row,
-                next: Cursor {
-                    at: at + 4 * words,
-                    end,
-                },
-            }
-        }
+    let Some((length, row)) = c.text(s) else {
+        return None;
+    };
+    let at = row.at;
+    let end = row.end;
+    if end - at < 4 * words {
+        return None;
     }
+    Some(Named {
+        length,
+        row,
+        next: Cursor {
+            at: at + 4 * words,
+            end,
+        },
+    })
 }

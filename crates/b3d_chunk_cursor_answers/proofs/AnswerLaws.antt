@@ -1,4 +1,7 @@
 -- By each case of an answer what the definitions read where the cursor stands.
+use Rattle.std.specs.Prelude.{Some, None}
+use Rattle.std.specs.Prelude as std
+use Rattle.b3d_chunk_cursor.specs.declared.Named.{Named}
 use Prim.Native.Nat.{ℕ}
 use native.Mathlib.Omega.{arith}
 use mathlib.Core.Path.{◌≡◌, refl, ap, sym, ◌∙◌}
@@ -8,10 +11,6 @@ use lib.ListN.{length, replicate, length-replicate}
 use Rattle.wire.specs.Bytes.{word_at}
 use Rattle.wire.specs.Cursors.{Inside, left, number_at, text_at, header_at}
 use Rattle.wire.specs.declared.Cursor.{Cursor}
-use Rattle.wire.specs.declared.Number.{Number}
-use Rattle.wire.specs.declared.Number.TheVariants as number
-use Rattle.wire.specs.declared.Text.{Text}
-use Rattle.wire.specs.declared.Text.TheVariants as text
 use Rattle.wire.specs.declared.Header.{Header}
 use Rattle.wire.specs.declared.Header.TheVariants as header
 use Rattle.wire.proofs.AnswerLaws.{numbered, number_cut, text-cut, left-length, left-drop}
@@ -22,8 +21,6 @@ use Rattle.layout.proofs.StepLaws.{row_any, any-short, word-left, text_none}
 use Rattle.b3d_spec.specs.declared.Tag.{Tag}
 use Rattle.b3d_spec.specs.Tags.{tag_of, split}
 use Rattle.b3d_chunk_cursor.specs.Chunks.{tagged, named_at}
-use Rattle.b3d_chunk_cursor.specs.declared.Named.{Named}
-use Rattle.b3d_chunk_cursor.specs.declared.Named.TheVariants as named
 use Rattle.b3d_chunk_cursor.proofs.NamedLaws.{text-is, named-cut, named-any}
 use Rattle.b3d_chunk_cursor.proofs.PassLaws.{pass_none, next-none, next-cut, next_known, pass_one}
 use Rattle.b3d_chunk_cursor_answers.specs.Answers.{number_says, text_says, header_says, named_says, Answered}
@@ -32,9 +29,9 @@ module _ (s : List ℕ) (c : Cursor) (i : Inside c (length s)) where
   number-told : row (any ∷ []) c.at (left c s) ≡ number_says s c (number_at s c)
   number-told = go (number_at s c) refl
     where
-      go : (r : Number) → number_at s c ≡ r → row (any ∷ []) c.at (left c s) ≡ number_says s c r
-      go number.Cut e = let short = number_cut s c e in any-short 1 c.at (left c s) (omega (arith, left-length s c i))
-      go (number.Is n d) e =
+      go : (r : std.Option (ℕ × Cursor)) → number_at s c ≡ r → row (any ∷ []) c.at (left c s) ≡ number_says s c r
+      go None e = let short = number_cut s c e in any-short 1 c.at (left c s) (omega (arith, left-length s c i))
+      go (Some (n, d)) e =
           let f = numbered s c n d e in
           let w : words_of 1 (left c s) ≡ word_at s c.at ∷ [] = word-left s c d 0 i f.room f.to f.same in
           let k : n ∷ [] ≡ words_of 1 (left c s) = ap (λ (x : ℕ). x ∷ []) f.is ∙ sym w in
@@ -43,9 +40,9 @@ module _ (s : List ℕ) (c : Cursor) (i : Inside c (length s)) where
   text-told : read_text c.at c.at (left c s) ≡ text_says s c (text_at s c)
   text-told = go (text_at s c) refl
     where
-      go : (r : Text) → text_at s c ≡ r → read_text c.at c.at (left c s) ≡ text_says s c r
-      go text.Cut e = text_none c.at c.at (left c s) (text-cut s c e)
-      go (text.Is n d) e = text-is s c n d e
+      go : (r : std.Option (ℕ × Cursor)) → text_at s c ≡ r → read_text c.at c.at (left c s) ≡ text_says s c r
+      go None e = text_none c.at c.at (left c s) (text-cut s c e)
+      go (Some (n, d)) e = text-is s c n d e
 
   header-told : split c.at (left c s) ≡ header_says s c (header_at s c)
   unfolding keep
@@ -63,9 +60,9 @@ module _ (s : List ℕ) (c : Cursor) (i : Inside c (length s)) where
   named-told : (words : ℕ) → read_named (replicate words any) c.at (left c s) ≡ named_says s c words (named_at s c words)
   named-told words = go (named_at s c words) refl
     where
-      go : (r : Named) → named_at s c words ≡ r → read_named (replicate words any) c.at (left c s) ≡ named_says s c words r
-      go named.Cut e = named-cut s c words i (replicate words any) (length-replicate words any) (named_at s c words) refl e
-      go (named.Is n w d) e = named-any s c words i (named_at s c words) refl n w d e
+      go : (r : std.Option Named) → named_at s c words ≡ r → read_named (replicate words any) c.at (left c s) ≡ named_says s c words r
+      go None e = named-cut s c words i (replicate words any) (length-replicate words any) (named_at s c words) refl e
+      go (Some f) e = named-any s c words i (named_at s c words) refl f e
 
   pub answered : Answered s c
   answered = record { number = number-told; text = text-told; header = header-told; named = named-told }

@@ -1,11 +1,9 @@
--- What `Number`, `Text` and `Header` of `wire` and `Named` of `b3d_chunk_cursor` say: for each case the values, or 01's number and place.
-use Rattle.std.specs.Prelude.{◌≡◌, ℕ, List, [], ◌∷◌, take, replicate}
+-- What `number`, `text` and `header` of `wire` and `named_row` of `b3d_chunk_cursor` say: for each case the values, or 01's number and place.
+use Rattle.std.specs.Prelude as std
+use Rattle.b3d_chunk_cursor.specs.declared.Named.{Named}
+use Rattle.std.specs.Prelude.{◌≡◌, ℕ, List, [], ◌∷◌, take, replicate, Some, None}
 use Rattle.wire.specs.Cursors.{left, number_at, text_at, header_at}
 use Rattle.wire.specs.declared.Cursor.{Cursor}
-use Rattle.wire.specs.declared.Number.{Number}
-use Rattle.wire.specs.declared.Number.TheVariants as number
-use Rattle.wire.specs.declared.Text.{Text}
-use Rattle.wire.specs.declared.Text.TheVariants as text
 use Rattle.wire.specs.declared.Header.{Header}
 use Rattle.wire.specs.declared.Header.TheVariants as header
 use Rattle.layout.specs.Chunks.{done, stop, keep}
@@ -15,18 +13,16 @@ use Rattle.layout.specs.Rules.{any}
 use Rattle.layout.specs.Refusals as refusals
 use Rattle.b3d_spec.specs.Tags.{Chunks, tag_of, split}
 use Rattle.b3d_chunk_cursor.specs.Chunks.{named_at}
-use Rattle.b3d_chunk_cursor.specs.declared.Named.{Named}
-use Rattle.b3d_chunk_cursor.specs.declared.Named.TheVariants as named
 
--- what a `Number` says of s at c, where data or an item begins: the number and what follows it; cut, it is 5 at c
-abbrev pub number_says : List ℕ → Cursor → Number → Result (Step (List ℕ))
-number_says s c (number.Is n next) = accept (record { value = n ∷ []; place = next.at; left = left next s })
-number_says s c number.Cut = reject refusals.cut_item c.at
+-- what the answer of `number` says of s at c, where data or an item begins: the number and what follows it; cut, it is 5 at c
+abbrev pub number_says : List ℕ → Cursor → std.Option (ℕ × Cursor) → Result (Step (List ℕ))
+number_says s c (Some (n, next)) = accept (record { value = n ∷ []; place = next.at; left = left next s })
+number_says s c None = reject refusals.cut_item c.at
 
--- what a `Text` says of s at c, where data or an item begins: its bytes and what follows its zero; cut, it is 5 at c
-abbrev pub text_says : List ℕ → Cursor → Text → Result (Step (List ℕ))
-text_says s c (text.Is n next) = accept (record { value = take n (left c s); place = next.at; left = left next s })
-text_says s c text.Cut = reject refusals.cut_item c.at
+-- what the answer of `text` says of s at c, where data or an item begins: its bytes and what follows its zero; cut, it is 5 at c
+abbrev pub text_says : List ℕ → Cursor → std.Option (ℕ × Cursor) → Result (Step (List ℕ))
+text_says s c (Some (n, next)) = accept (record { value = take n (left c s); place = next.at; left = left next s })
+text_says s c None = reject refusals.cut_item c.at
 
 -- what a `Header` says of s at c: its chunk, which is passed over if the tag is not known, then the chunks after it; cut, it is 3 at c; at the end there is
 -- no chunk
@@ -35,11 +31,11 @@ header_says s c (header.Whole tag body next) = keep (tag_of tag) c.at (left body
 header_says s c header.Cut = stop refusals.cut_chunk c.at
 header_says s c header.End = done
 
--- what a `Named` says of s at c: a name and `words` words, and what follows them; cut, it is 5 at c, where the name begins
-abbrev pub named_says : List ℕ → Cursor → ℕ → Named → Result (Step (Name × List ℕ))
-named_says s c words (named.Is n at next) =
-    accept (record { value = (record { place = c.at; bytes = take n (left c s) }, words_of words (left at s)); place = next.at; left = left next s })
-named_says s c words named.Cut = reject refusals.cut_item c.at
+-- what the answer of `named_row` says of s at c: a name and `words` words, and what follows them; cut, it is 5 at c, where the name begins
+abbrev pub named_says : List ℕ → Cursor → ℕ → std.Option Named → Result (Step (Name × List ℕ))
+named_says s c words (Some f) =
+    accept (record { value = (record { place = c.at; bytes = take f.length (left c s) }, words_of words (left f.row s)); place = f.next.at; left = left f.next s })
+named_says s c words None = reject refusals.cut_item c.at
 
 -- what a cursor c answers on s is what is read there by the definitions of files
 pub record Answered (s : List ℕ) (c : Cursor) : Type 0 where

@@ -1,4 +1,8 @@
 -- The chunks that a cursor has left, by what `next_chunk` finds there, and by what the nesting table makes of it.
+use Rattle.std.specs.Prelude.{Ok, Err, Some, None}
+use Rattle.std.specs.Prelude as std
+use Rattle.b3d_chunk_next_allowed.specs.declared.Enclosed.{Enclosed}
+use Rattle.layout.specs.declared.Refusal.{Refusal}
 use mathlib.Core.Path.{ap, ◌≡◌}
 use Prim.Native.Nat.{ℕ, ◌≤◌}
 use native.Mathlib.Omega.{arith}
@@ -15,8 +19,6 @@ use Rattle.b3d_chunk_cursor.specs.declared.Next.TheVariants as next
 use Rattle.b3d_chunk_cursor.proofs.NextLaws.{chunk-is, done-is}
 use Rattle.b3d_spec_chunk_places.specs.Places.{Body, rest_in, Among}
 use Rattle.b3d_rule_nesting_order.specs.declared.Reached.{Reached as State}
-use Rattle.b3d_chunk_next_allowed.specs.declared.Enclosed.{Enclosed}
-use Rattle.b3d_chunk_next_allowed.specs.declared.Enclosed.TheVariants as enclosed
 use Rattle.b3d_rule_nesting_order.specs.Turns.{reached_of}
 use Rattle.b3d_chunk_next_allowed.specs.Steps.{EnclosedIs}
 use Rattle.b3d_chunk_next_allowed.proofs.InsideLaws.{stepped, step-among, stopped, ended}
@@ -33,24 +35,24 @@ module _ (s : List ℕ) (c : Cursor) (r : Next) (x : NextIs s c r) (k : Tag) (he
   rest-done w = ap (order k head q) (done-is s c r x w)
 
 -- the same, by what `first_inside` or `next_inside` makes of it
-module _ (s : List ℕ) (k : Tag) (head : ℕ) (q : State) (c : Cursor) (r : Enclosed) (x : EnclosedIs s k head q c r) where
-  pub rest-step : (t : Tag) (p : ℕ) (b n : Cursor) (z : State) → r ≡ enclosed.Chunk t p b n z
-      → rest_in s k head (reached_of q) c ≡ chunk t p (left b s) (rest_in s k head (reached_of z) n)
+module _ (s : List ℕ) (k : Tag) (head : ℕ) (q : State) (c : Cursor) (r : std.Result (std.Option Enclosed) Refusal) (x : EnclosedIs s k head q c r) where
+  pub rest-step : (f : Enclosed) → r ≡ Ok (Some f)
+      → rest_in s k head (reached_of q) c ≡ chunk f.tag f.at (left f.body s) (rest_in s k head (reached_of f.reached) f.next)
   unfolding rest_in
-  rest-step t p b n z w = stepped s k head q c r x t p b n z w
+  rest-step f w = stepped s k head q c r x f w
 
-  pub rest-stop : (e p : ℕ) → r ≡ enclosed.Reject e p → rest_in s k head (reached_of q) c ≡ stop e p
+  pub rest-stop : (e : Refusal) → r ≡ Err e → rest_in s k head (reached_of q) c ≡ stop e.number e.place
   unfolding rest_in
-  rest-stop e p w = stopped s k head q c r x e p w
+  rest-stop e w = stopped s k head q c r x e w
 
-  pub rest_end : r ≡ enclosed.End → rest_in s k head (reached_of q) c ≡ done
+  pub rest_end : r ≡ (Ok None) → rest_in s k head (reached_of q) c ≡ done
   unfolding rest_in
   rest_end w = ended s k head q c r x w
 
   -- the body of a chunk that may stand there
-  pub step-body : (at : ℕ) → Among at c (length s) → (t : Tag) (p : ℕ) (b n : Cursor) (z : State) → r ≡ enclosed.Chunk t p b n z → Body p b (length s)
-  step-body at g t p b n z w =
-      let f = step-among s k head q c r x t p b n z w in
+  pub step-body : (at : ℕ) → Among at c (length s) → (d : Enclosed) → r ≡ Ok (Some d) → Body d.at d.body (length s)
+  step-body at g d w =
+      let f = step-among s k head q c r x d w in
       record { head = f.body; room = f.room; within = omega (arith, g.within); small = g.small }
 
 -- what `next_chunk`, `first_inside` and `next_inside` ask of a cursor

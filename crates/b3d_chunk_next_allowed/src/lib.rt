@@ -8,24 +8,20 @@ ghost use Rattle.b3d_rule_nesting_order.specs.Turns.{first};
 ghost use Rattle.b3d_chunk_next_allowed.specs.Steps.{permit_for, EnclosedIs};
 
 use b3d_chunk_cursor::Next;
-use b3d_rule_nesting_order::{Permit, Reached};
+use b3d_rule_nesting_order::Reached;
 use b3d_spec::Tag;
-use layout::refusals;
+use layout::{Refusal, refusals};
 use wire::Cursor;
 
-// The next known chunk inside one that encloses it: its tag, the place of its header, its body, the cursor after it, how far the chunks
-// have come with it; or a refusal and its place; or the end, with nothing owed.
+// The next known chunk inside one that encloses it: its tag, the place of its header, its body, the cursor after it, and how far the chunks
+// have come with it.
 #[derive(Clone, Copy)]
-pub enum Enclosed {
-    Chunk {
-        tag: Tag,
-        at: usize,
-        body: Cursor,
-        next: Cursor,
-        reached: Reached,
-    },
-    Reject(u32, usize),
-    End,
+pub struct Enclosed {
+    pub tag: Tag,
+    pub at: usize,
+    pub body: Cursor,
+    pub next: Cursor,
+    pub reached: Reached,
 }
 
 // No chunk was read yet.
@@ -35,17 +31,17 @@ const FIRST: Reached = Reached {
 };
 
 // Returns what the table permits of `found` inside a chunk of the tag `enclosing`, after `reached`: the chunk there, or the end of the chunks; of a cut
-// header `No`.
-fn permit_for(found: Next, enclosing: Tag, reached: Reached) -> Permit
+// header `None`.
+fn permit_for(found: Next, enclosing: Tag, reached: Reached) -> Option<Reached>
     ensures { result ≡ permit_for enclosing reached found }
 {
     match found {
-        Next::Cut(_) => Permit::No,
+        Next::Cut(_) => None,
         Next::Done => {
             if b3d_rule_nesting_order::owes(enclosing, reached) {
-                return Permit::No;
+                return None;
             }
-            Permit::Yes(reached)
+            Some(reached)
         }
         Next::Chunk { tag, .. } => b3d_rule_nesting_order::is_permitted(enclosing, reached, tag),
     }
@@ -57,41 +53,60 @@ fn by_permit(
     s: &[u8],
     from: Cursor,
     found: Next,
-    permit: Permit,
+    permit: Option<Reached>,
     enclosing: Tag,
     head: usize,
     reached: Reached,
-) -> Enclosed
+) -> Result<Option<Enclosed>, Refusal>
     requires { NextIs s.now from found × Inside from (length s.now) × (head ≤ from.at) × (permit ≡ permit_for enclosing reached found) }
     ensures { EnclosedIs s.now enclosing head reached from result }
 {
     match found {
-        Next::Cut(p) => Enclosed::Reject(refusals::CUT_CHUNK, p),
-        Next::Done => match permit {
-            Permit::No => Enclosed::Reject(refusals::NO_VRTS_OR_TRIS, head),
-            Permit::Yes(_) => Enclosed::End,
-        },
+        Next::Cut(p) => Err(Refusal {
+            number: refusals::CUT_CHUNK,
+            place: p,
+        }),
+        Next::Done => {
+            let Some(_) = permit else {
+                return Err(Refusal {
+                    number: refusals::NO_VRTS_OR_TRIS,
+                    place: head,
+                });
+            };
+            Ok(None)
+        }
         Next::Chunk {
             tag,
             at,
             body,
             next,
-        } => match permit {
-            Permit::No => Enclosed::Reject(refusals::NESTING, at),
-            Permit::Yes(z) => Enclosed::Chunk {
+        } => {
+            let Some(z) = permit else {
+                return Err(Refusal {
+                    number: refusals::NESTING,
+                    place: at,
+                });
+            };
+            Ok(Some(Enclosed {
                 tag,
                 at,
                 body,
                 next,
                 reached: z,
-            },
-        },
+            }))
+        }
     }
 }
 
 // Returns the first known chunk inside one of the tag `enclosing` whose header is at `head`, by what was `found` from the cursor `from` on; or a refusal, or
-// the end.
-pub fn first_inside(s: &[u8], from: Cursor, found: Next, enclosing: Tag, head: usize) -> Enclosed
+// `None` at the end, with nothing owed.
+pub fn first_inside(
+    s: &[u8],
+    from: Cursor,
+    found: Next,
+    enclosing: Tag,
+    head: usize,
+) -> Result<Option<Enclosed>, Refusal>
     requires { NextIs s.now from found × Inside from (length s.now) × (head ≤ from.at) }
     ensures { EnclosedIs s.now enclosing head first from result }
 {
@@ -100,7 +115,7 @@ pub fn first_inside(s: &[u8], from: Cursor, found: Next, enclosing: Tag, head: u
 }
 
 // Returns the next known chunk inside one of the tag `enclosing` whose header is at `head`, after chunks that came to `reached`, by what was `found` from the
-// cursor `from` on; or a refusal, or the end.
+// cursor `from` on; or a refusal; or `None` at the end, with nothing owed.
 pub fn next_inside(
     s: &[u8],
     from: Cursor,
@@ -108,7 +123,7 @@ pub fn next_inside(
     enclosing: Tag,
     head: usize,
     reached: Reached,
-) -> Enclosed
+) -> Result<Option<Enclosed>, Refusal>
     requires { NextIs s.now from found × Inside from (length s.now) × (head ≤ from.at) }
     ensures { EnclosedIs s.now enclosing head reached from result }
 {

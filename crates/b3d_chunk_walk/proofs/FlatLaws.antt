@@ -1,4 +1,7 @@
 -- A law for each way through `flat_next` and `enter`.
+use Rattle.std.specs.Prelude.{Some, None}
+use Rattle.std.specs.Prelude as std
+use Rattle.b3d_chunk_cursor.specs.declared.Named.{Named}
 use mathlib.Core.Path.{◌≡◌, refl, ap, sym, subst, ◌∙◌}
 use Prim.Native.Nat.{ℕ, ◌+◌, ◌-◌, ◌≤◌}
 use native.Mathlib.Omega.{arith}
@@ -21,15 +24,12 @@ use Rattle.b3d_spec.specs.Tags.{Chunks, split, is}
 use Rattle.b3d_chunk_cursor.specs.Chunks.{NextIs, named_at, NamedIn}
 use Rattle.b3d_chunk_cursor.specs.declared.Next.{Next}
 use Rattle.b3d_chunk_cursor.specs.declared.Next.TheVariants as next
-use Rattle.b3d_chunk_cursor.specs.declared.Named.{Named}
-use Rattle.b3d_chunk_cursor.specs.declared.Named.TheVariants as named
 use Rattle.b3d_chunk_cursor.proofs.NamedLaws.{named-cut, named-any, named-among, row_inside, row_room}
 use Rattle.b3d_chunk_cursor.proofs.NextLaws.{chunk-is, chunk-among, cut-is, done-is}
 use Rattle.b3d_spec_plain_rows.specs.Flat.{rest, flat_at}
 use Rattle.b3d_spec_plain_rows.specs.Rows.{node_rows, nodes_before, flat_rows, kind_of, anim_of}
 use Rattle.b3d_spec_plain_rows.proofs.FlatRunLaws.{Here, Laid, rest_laid, run-done, run-stop, run_past, run_into, run_none}
 use Rattle.b3d_chunk_walk.specs.Walks.{BodyAt, NodeAt, Ends, Steps}
-use Rattle.b3d_chunk_walk.specs.declared.Flat.TheVariants as flat
 
 -- a chunk that stands first
 here_of : (s : List ℕ) (at : ℕ) (t : Tag) (p : ℕ) (b : List ℕ) (r : Chunks) → rest s at ≡ chunk t p b r → Here s at t p b
@@ -52,21 +52,21 @@ module _ (s : List ℕ) (at p : ℕ) (b : Cursor) (x : NodeAt s at p b) where
   pub here : Here s at x.tag p (left b s)
   here = here_of s at x.tag p (left b s) x.others x.first
 
-  module _ (r : Named) (e : r ≡ named_at s b 10) (i : NamedIn b 10 r) where
-    pub node-cut : r ≡ named.Cut → Steps s at flat.End
+  module _ (r : std.Option Named) (e : r ≡ named_at s b 10) (i : NamedIn b 10 r) where
+    pub node-cut : r ≡ None → Steps s at None
     node-cut q =
         let c : named_of node_row (p + 8) (left b s) ≡ reject 5 b.at = ap (λ (k : ℕ). named_of node_row k (left b s)) (sym x.body.head) ∙ named-cut s b 10 node-inside node_row refl r e q in
         record { is = subst Ends (sym (run_none s at x.tag p (left b s) here 5 b.at x.node c)) (stop-ends 5 b.at) }
 
-    pub node_in : (len : ℕ) (w n : Cursor) → r ≡ named.Is len w n → Steps s at (flat.Chunk NODE p b n.at)
-    node_in len w n q =
-        let f = named-among b 10 r i len w n q in
-        let c = ap (λ (k : ℕ). named_of node_row k (left b s)) (sym x.body.head) ∙ named-any s b 10 node-inside r e len w n q in
+    pub node_in : (g : Named) → r ≡ Some g → Steps s at (Some (record { tag = NODE; at = p; body = b; next = g.next.at }))
+    node_in g q =
+        let f = named-among b 10 r i g q in
+        let c = ap (λ (k : ℕ). named_of node_row k (left b s)) (sym x.body.head) ∙ named-any s b 10 node-inside r e g q in
         record {
           is = record {
             run = run_into s at x.tag p (left b s) here _ x.node c;
             size = here.size;
-            node = λ y. record { step = _; is = c; name = x.body.head; ten = length-words-of 10 (left w s) (omega (arith, left-length s w (row_inside b 10 r i len w n q (length s) node-inside), row_room b 10 r i len w n q)) };
+            node = λ y. record { step = _; is = c; name = x.body.head; ten = length-words-of 10 (left g.row s) (omega (arith, left-length s g.row (row_inside b 10 r i g q (length s) node-inside), row_room b 10 r i g q)) };
             body = x.body;
             from = x.from;
             more = omega (arith, x.from, x.body.head, f.row, f.after);
@@ -89,10 +89,10 @@ module _ (s : List ℕ) (at : ℕ) (le : at ≤ length s) (r : Next) (x : NextIs
   unfolding rest
   found cs e = ap (split at) (sym (from-left s at)) ∙ e
 
-  pub next-done : r ≡ next.Done → Steps s at flat.End
+  pub next-done : r ≡ next.Done → Steps s at None
   next-done w = record { is = subst Ends (sym (run-done s at (found done (done-is s (span at (length s)) r x w)))) done-ends }
 
-  pub next-cut : (p : ℕ) → r ≡ next.Cut p → Steps s at flat.End
+  pub next-cut : (p : ℕ) → r ≡ next.Cut p → Steps s at None
   next-cut p w = record { is = subst Ends (sym (run-stop s at 3 p (found (stop 3 p) (cut-is s (span at (length s)) r x p w)))) (stop-ends 3 p) }
 
   module _ (t : Tag) (p : ℕ) (b n : Cursor) (w : r ≡ next.Chunk t p b n) where
@@ -108,7 +108,7 @@ module _ (s : List ℕ) (at : ℕ) (le : at ≤ length s) (r : Next) (x : NextIs
           let f = chunk-among s (span at (length s)) r x t p b n w in
           record { tag = t; node = subst T (sym z ∙ eo) tt; from = f.from; body = body; others = _; first = first }
 
-      pub next-other : ok ≡ false → Steps s at (flat.Chunk t p b n.at)
+      pub next-other : ok ≡ false → Steps s at (Some (record { tag = t; at = p; body = b; next = n.at }))
       next-other z =
           let f = chunk-among s (span at (length s)) r x t p b n w in
           let h = here_of s at t p (left b s) _ first in

@@ -1,4 +1,7 @@
 -- The chunks inside a MESH, as the code finds them.
+use Rattle.std.specs.Prelude.{Some, None}
+use Rattle.std.specs.Prelude as std
+use Rattle.b3d_chunk_walk.specs.declared.Sought.{Sought}
 use mathlib.Core.Path.{◌≡◌, refl, ap, ◌∙◌}
 use Prim.Native.Nat.{ℕ, ◌+◌}
 use native.Mathlib.Omega.{arith}
@@ -14,8 +17,6 @@ use Rattle.b3d_spec_plain_rows.specs.Plain.{plain_triangles, sets_of}
 use Rattle.b3d_chunk_walk.specs.Walks.{BodyAt}
 use Rattle.b3d_chunk_walk.specs.Seeks.{seek_of, ahead, inner, Seeks, FirstWord}
 use Rattle.b3d_chunk_walk.specs.declared.Headed.{Headed}
-use Rattle.b3d_chunk_walk.specs.declared.Sought.{Sought}
-use Rattle.b3d_chunk_walk.specs.declared.Sought.TheVariants as sought
 use Rattle.b3d_chunk_walk.proofs.SeekLaws.{sought_none, sought_is, by_seek}
 
 pub mesh-inside : (s : List ℕ) (p : ℕ) (b : Cursor) → BodyAt s p b → Inside b (length s)
@@ -32,11 +33,11 @@ sets_seek cs =
     (λ t p b r y. if_no (is t TRIS) (plain_triangles b ∷ sets_of r) (sets_of r) y)
     cs
 
-module _ (s : List ℕ) (c : Cursor) (r : Sought) (x : Seeks s c TRIS r) where
-  pub no-set : r ≡ sought.Nothing → sets_of (ahead s c) ≡ []
+module _ (s : List ℕ) (c : Cursor) (r : std.Option Sought) (x : Seeks s c TRIS r) where
+  pub no-set : r ≡ None → sets_of (ahead s c) ≡ []
   unfolding sets_of
   no-set w = sets_seek (ahead s c) ∙ ap sets_of (sought_none s c TRIS r x w)
 
-  pub one_set : (p : ℕ) (b n : Cursor) → r ≡ sought.Found p b n → sets_of (ahead s c) ≡ plain_triangles (left b s) ∷ sets_of (ahead s n)
+  pub one_set : (f : Sought) → r ≡ Some f → sets_of (ahead s c) ≡ plain_triangles (left f.body s) ∷ sets_of (ahead s f.next)
   unfolding sets_of if
-  one_set p b n w = sets_seek (ahead s c) ∙ ap sets_of (sought_is s c TRIS r x p b n w)
+  one_set f w = sets_seek (ahead s c) ∙ ap sets_of (sought_is s c TRIS r x f w)

@@ -1,4 +1,7 @@
 -- The loop of `seek`, and what its answer says.
+use Rattle.std.specs.Prelude.{Some, None}
+use Rattle.std.specs.Prelude as std
+use Rattle.b3d_chunk_walk.specs.declared.Sought.{Sought}
 use mathlib.Core.Path.{◌≡◌, refl, ap, sym, subst, ◌∙◌}
 use Prim.Native.Nat.{ℕ, ◌-◌, ◌<◌, ◌≤◌}
 use native.Mathlib.Omega.{arith}
@@ -19,8 +22,6 @@ use Rattle.b3d_chunk_cursor.specs.declared.Next.{Next}
 use Rattle.b3d_chunk_cursor.specs.declared.Next.TheVariants as next
 use Rattle.b3d_chunk_cursor.proofs.NextLaws.{chunk-is, chunk-among, cut-is, done-is}
 use Rattle.b3d_chunk_walk.specs.Seeks.{seek_of, ahead, Seeks}
-use Rattle.b3d_chunk_walk.specs.declared.Sought.{Sought}
-use Rattle.b3d_chunk_walk.specs.declared.Sought.TheVariants as sought
 
 -- from c on the same is found as from `from` on
 pub record SeekLeft (s : List ℕ) (from : Cursor) (k : Tag) (c : Cursor) : Type 0 where
@@ -38,16 +39,16 @@ module _ (s : List ℕ) (from : Cursor) (k : Tag) where
     seek_inside = v.inside
 
     module _ (r : Next) (x : NextIs s c r) where
-      pub seek_done : r ≡ next.Done → Seeks s from k sought.Nothing
+      pub seek_done : r ≡ next.Done → Seeks s from k None
       unfolding seek_of
       seek_done w = record { says = v.same ∙ ap (seek_of k) (done-is s c r x w); among = tt }
 
-      pub seek_cut : (p : ℕ) → r ≡ next.Cut p → Seeks s from k sought.Nothing
+      pub seek_cut : (p : ℕ) → r ≡ next.Cut p → Seeks s from k None
       unfolding seek_of
       seek_cut p w = record { says = v.same ∙ ap (seek_of k) (cut-is s c r x p w); among = tt }
 
       module _ (t : Tag) (p : ℕ) (b n : Cursor) (w : r ≡ next.Chunk t p b n) (ok : Bool) (eo : ok ≡ is t k) where
-        pub seek_found : ok ≡ true → Seeks s from k (sought.Found p b n)
+        pub seek_found : ok ≡ true → Seeks s from k (Some (record { at = p; body = b; next = n }))
         unfolding seek_of
         seek_found z =
             let f = chunk-among s c r x t p b n w in
@@ -75,25 +76,25 @@ pub ruleset seek_laws = (seek_start, seek_inside, seek_done, seek_cut, seek_foun
 
 -- ---- what an answer says to those who asked
 
-module _ (s : List ℕ) (c : Cursor) (k : Tag) (r : Sought) (x : Seeks s c k r) where
-  pub sought_none : r ≡ sought.Nothing → seek_of k (ahead s c) ≡ done
+module _ (s : List ℕ) (c : Cursor) (k : Tag) (r : std.Option Sought) (x : Seeks s c k r) where
+  pub sought_none : r ≡ None → seek_of k (ahead s c) ≡ done
   sought_none w = (subst (Seeks s c k) w x).says
 
-  module _ (p : ℕ) (b n : Cursor) (w : r ≡ sought.Found p b n) where
-    pub sought_is : seek_of k (ahead s c) ≡ chunk k p (left b s) (ahead s n)
+  module _ (g : Sought) (w : r ≡ Some g) where
+    pub sought_is : seek_of k (ahead s c) ≡ chunk k g.at (left g.body s) (ahead s g.next)
     sought_is = (subst (Seeks s c k) w x).says
 
-    pub sought_among : Among c p b n
+    pub sought_among : Among c g.at g.body g.next
     sought_among = (subst (Seeks s c k) w x).among
 
     module _ (l : ℕ) (i : Inside c l) where
-      pub sought_body : Inside b l
+      pub sought_body : Inside g.body l
       sought_body = let f = sought_among in omega arith
 
-      pub sought_next : Inside n l
+      pub sought_next : Inside g.next l
       sought_next = let f = sought_among in omega arith
 
-    pub sought_less : n.end - n.at < c.end - c.at
+    pub sought_less : g.next.end - g.next.at < c.end - c.at
     sought_less = let f = sought_among in omega arith
 
 -- ---- what goes by the chunks of one tag alone

@@ -1,4 +1,7 @@
 -- A table that a loop over the flat run fills: what the loop has come to, and a law for each way on, whatever the table.
+use Rattle.std.specs.Prelude.{Some, None}
+use Rattle.std.specs.Prelude as std
+use Rattle.b3d_chunk_walk.specs.declared.FlatChunk.{FlatChunk}
 use mathlib.Core.Path.{◌≡◌, refl, ap, sym, subst, ◌∙◌}
 use Prim.Native.Nat.{ℕ, ◌+◌, ◌-◌, ◌<◌, ◌≤◌}
 use native.Mathlib.Omega.{arith}
@@ -22,8 +25,6 @@ use Rattle.b3d_spec_plain_rows.specs.Rows.{counted, chunk_rows, flat_rows, file_
 use Rattle.b3d_spec_plain_rows.proofs.FlatRunLaws.{run-done}
 use Rattle.b3d_chunk_walk.proofs.CountLaws.{tag_same}
 use Rattle.b3d_chunk_walk.specs.Walks.{ChunkIs, Ends, FlatIs, Steps}
-use Rattle.b3d_chunk_walk.specs.declared.Flat.{Flat}
-use Rattle.b3d_chunk_walk.specs.declared.Flat.TheVariants as run
 
 -- table k has the rows f of the chunks of tag o, and no other
 pub record Owns (k : ℕ) (o : Tag) (f : ℕ → List ℕ → Counts → List (List ℕ)) : Type 0 where
@@ -80,58 +81,58 @@ module _ {k : ℕ} {o : Tag} {f : ℕ → List ℕ → Counts → List (List ℕ
       pub table_long : length out ≡ length out₀
       table_long = v.stores.long
 
-      module _ (r : Flat) (x : Steps s at r) where
-        pub table_done : r ≡ run.End → out ≡ sets out₀ 0 (joined (file_rows k s))
+      module _ (r : std.Option FlatChunk) (x : Steps s at r) where
+        pub table_done : r ≡ None → out ≡ sets out₀ 0 (joined (file_rows k s))
         unfolding joined
         table_done w = let e : Ends (flat_at s at) = subst (FlatIs s at) w x.is in store_done v.stores (ap joined (e.rows k v.counts))
 
-        module _ (t : Tag) (p : ℕ) (b : Cursor) (q : ℕ) (w : r ≡ run.Chunk t p b q) where
-          it : ChunkIs s at t p b q
+        module _ (g : FlatChunk) (w : r ≡ Some g) where
+          it : ChunkIs s at g.tag g.at g.body g.next
           it = subst (FlatIs s at) w x.is
 
-          pub table_chunk : ChunkIs s at t p b q
+          pub table_chunk : ChunkIs s at g.tag g.at g.body g.next
           table_chunk = it
 
-          pub table_less : length s - q < length s - at
+          pub table_less : length s - g.next < length s - at
           table_less = omega (arith, it.more, it.to)
 
-          pub table_body : Inside b (length s)
+          pub table_body : Inside g.body (length s)
           table_body = record { before = it.body.room; within = it.body.within }
 
-          split_rows : table_from k s v.counts at ≡ joined (chunk_rows k t p (left b s) v.counts) ++ table_from k s (counted t p (left b s) v.counts) q
+          split_rows : table_from k s v.counts at ≡ joined (chunk_rows k g.tag g.at (left g.body s) v.counts) ++ table_from k s (counted g.tag g.at (left g.body s) v.counts) g.next
           unfolding flat_rows
           split_rows = ap (λ c. joined (flat_rows k v.counts c)) it.run ∙ joined-append _ _
 
-          module _ (ok : Bool) (eo : ok ≡ is t o) (Q : Counts → Type 0) (y : Q (counted t p (left b s) v.counts)) where
-            pub table_other : ok ≡ false → TableLeft k Q s out₀ out q base
+          module _ (ok : Bool) (eo : ok ≡ is g.tag o) (Q : Counts → Type 0) (y : Q (counted g.tag g.at (left g.body s) v.counts)) where
+            pub table_other : ok ≡ false → TableLeft k Q s out₀ out g.next base
             unfolding joined
             table_other z =
-                let e : table_from k s v.counts at ≡ table_from k s (counted t p (left b s) v.counts) q =
-                split_rows ∙ ap (λ l. joined l ++ table_from k s (counted t p (left b s) v.counts) q) (owns.other t p (left b s) v.counts (subst (λ (y : Bool). T (not y)) (sym z ∙ eo) tt)) in
-                record { counts = counted t p (left b s) v.counts; known = y; inside = it.to; room = rw e at v.room; stores = rw e at v.stores }
+                let e : table_from k s v.counts at ≡ table_from k s (counted g.tag g.at (left g.body s) v.counts) g.next =
+                split_rows ∙ ap (λ l. joined l ++ table_from k s (counted g.tag g.at (left g.body s) v.counts) g.next) (owns.other g.tag g.at (left g.body s) v.counts (subst (λ (y : Bool). T (not y)) (sym z ∙ eo) tt)) in
+                record { counts = counted g.tag g.at (left g.body s) v.counts; known = y; inside = it.to; room = rw e at v.room; stores = rw e at v.stores }
 
-          module _ (ok : Bool) (eo : ok ≡ is t o) (z : ok ≡ true) where
-            owned : table_from k s v.counts at ≡ joined (f p (left b s) v.counts) ++ table_from k s (counted t p (left b s) v.counts) q
-            owned = split_rows ∙ ap (λ l. joined l ++ table_from k s (counted t p (left b s) v.counts) q) (owns.own t p (left b s) v.counts (subst T (sym z ∙ eo) tt))
+          module _ (ok : Bool) (eo : ok ≡ is g.tag o) (z : ok ≡ true) where
+            owned : table_from k s v.counts at ≡ joined (f g.at (left g.body s) v.counts) ++ table_from k s (counted g.tag g.at (left g.body s) v.counts) g.next
+            owned = split_rows ∙ ap (λ l. joined l ++ table_from k s (counted g.tag g.at (left g.body s) v.counts) g.next) (owns.own g.tag g.at (left g.body s) v.counts (subst T (sym z ∙ eo) tt))
 
-            pub table_room : base + length (joined (f p (left b s) v.counts)) ≤ length out
-            table_room = omega (arith, v.room, v.stores.long, ap length owned, length-append (joined (f p (left b s) v.counts)) (table_from k s (counted t p (left b s) v.counts) q))
+            pub table_room : base + length (joined (f g.at (left g.body s) v.counts)) ≤ length out
+            table_room = omega (arith, v.room, v.stores.long, ap length owned, length-append (joined (f g.at (left g.body s) v.counts)) (table_from k s (counted g.tag g.at (left g.body s) v.counts) g.next))
 
-            pub table_own : (Q : Counts → Type 0) → Q (counted t p (left b s) v.counts) → (put : List ℕ) (to : ℕ) → to ≡ base + length (joined (f p (left b s) v.counts))
-                → put ≡ sets out base (joined (f p (left b s) v.counts)) → TableLeft k Q s out₀ put q to
+            pub table_own : (Q : Counts → Type 0) → Q (counted g.tag g.at (left g.body s) v.counts) → (put : List ℕ) (to : ℕ) → to ≡ base + length (joined (f g.at (left g.body s) v.counts))
+                → put ≡ sets out base (joined (f g.at (left g.body s) v.counts)) → TableLeft k Q s out₀ put g.next to
             table_own Q y put to et ep =
-                let m = counted t p (left b s) v.counts in
+                let m = counted g.tag g.at (left g.body s) v.counts in
                 record {
                   counts = m;
                   known = y;
                   inside = it.to;
-                  room = omega (arith, v.room, ap length owned, length-append (joined (f p (left b s) v.counts)) (table_from k s m q));
-                  stores = rw (et, ep) (store_run v.stores (joined (f p (left b s) v.counts)) owned);
+                  room = omega (arith, v.room, ap length owned, length-append (joined (f g.at (left g.body s) v.counts)) (table_from k s m g.next));
+                  stores = rw (et, ep) (store_run v.stores (joined (f g.at (left g.body s) v.counts)) owned);
                 }
 
             -- where nothing is asked of the counts
-            pub plain_own : (put : List ℕ) (to : ℕ) → to ≡ base + length (joined (f p (left b s) v.counts)) → put ≡ sets out base (joined (f p (left b s) v.counts)) → TableLeft k Any s out₀ put q to
+            pub plain_own : (put : List ℕ) (to : ℕ) → to ≡ base + length (joined (f g.at (left g.body s) v.counts)) → put ≡ sets out base (joined (f g.at (left g.body s) v.counts)) → TableLeft k Any s out₀ put g.next to
             plain_own put to et ep = table_own Any (any-counts _) put to et ep
 
-          pub plain_other : (ok : Bool) → ok ≡ is t o → ok ≡ false → TableLeft k Any s out₀ out q base
+          pub plain_other : (ok : Bool) → ok ≡ is g.tag o → ok ≡ false → TableLeft k Any s out₀ out g.next base
           plain_other ok eo z = table_other ok eo Any (any-counts _) z

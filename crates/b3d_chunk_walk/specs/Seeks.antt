@@ -1,5 +1,7 @@
 -- The first chunk of a tag among chunks that stand one after the other.
-use Rattle.std.specs.Prelude.{◌≡◌, ℕ, ◌+◌, ◌≤◌, List, length, drop, get_or}
+use Rattle.std.specs.Prelude as std
+use Rattle.b3d_chunk_walk.specs.declared.Sought.{Sought}
+use Rattle.std.specs.Prelude.{◌≡◌, ℕ, ◌+◌, ◌≤◌, List, length, drop, get_or, Some, None}
 use Rattle.wire.specs.Test.{if}
 use Rattle.wire.specs.Cursors.{Inside, left}
 use Rattle.wire.specs.declared.Cursor.{Cursor}
@@ -10,9 +12,7 @@ use Rattle.b3d_spec.specs.Tags.{Chunks, split, is}
 use Rattle.b3d_chunk_cursor.specs.Chunks.{Among}
 use Rattle.b3d_spec_plain_rows.specs.Plain.{named_items}
 use Rattle.b3d_chunk_walk.specs.declared.Headed.{Headed}
-use Rattle.b3d_chunk_walk.specs.declared.Sought.{Sought}
 use Rattle.b3d_chunk_walk.specs.declared.Three.{Three}
-use Rattle.b3d_chunk_walk.specs.declared.Sought.TheVariants as sought
 
 -- the chunks from the first of tag k on; `done` where there is none
 unfoldable pub seek_of : Tag → Chunks → Chunks
@@ -25,17 +25,17 @@ abbrev pub ahead : List ℕ → Cursor → Chunks
 ahead s c = split c.at (left c s)
 
 -- the answer of `seek` for tag k as chunks: the chunk found and those after it, or none
-abbrev pub sought_of : List ℕ → Tag → Sought → Chunks
-sought_of s k (sought.Found p b n) = chunk k p (left b s) (ahead s n)
-sought_of s k sought.Nothing = done
+abbrev pub sought_of : List ℕ → Tag → std.Option Sought → Chunks
+sought_of s k (Some f) = chunk k f.at (left f.body s) (ahead s f.next)
+sought_of s k None = done
 
 -- the chunk found lies within the cursor c; nothing is said where none is found
-abbrev pub SoughtIn : Cursor → Sought → Type 0
-SoughtIn c (sought.Found p b n) = Among c p b n
-SoughtIn c sought.Nothing = Unit {0}
+abbrev pub SoughtIn : Cursor → std.Option Sought → Type 0
+SoughtIn c (Some f) = Among c f.at f.body f.next
+SoughtIn c None = Unit {0}
 
 -- what `seek` promises of its answer r for tag k from the cursor c on
-pub record Seeks (s : List ℕ) (c : Cursor) (k : Tag) (r : Sought) : Type 0 where
+pub record Seeks (s : List ℕ) (c : Cursor) (k : Tag) (r : std.Option Sought) : Type 0 where
   -- r is the first chunk of tag k and what stands after it
   pub says : seek_of k (ahead s c) ≡ sought_of s k r
   -- the chunk found lies within c

@@ -1,5 +1,7 @@
 -- What the flat walk finds at a place of the file.
-use Rattle.std.specs.Prelude.{◌≡◌, ℕ, ◌+◌, ◌<◌, ◌≤◌, not, List, [], length, T}
+use Rattle.std.specs.Prelude as std
+use Rattle.b3d_chunk_walk.specs.declared.FlatChunk.{FlatChunk}
+use Rattle.std.specs.Prelude.{◌≡◌, ℕ, ◌+◌, ◌<◌, ◌≤◌, not, List, [], length, T, Some, None}
 use Rattle.wire.specs.Bytes.{word_at}
 use Rattle.wire.specs.Cursors.{left}
 use Rattle.wire.specs.declared.Cursor.{Cursor}
@@ -14,8 +16,6 @@ use Rattle.b3d_spec.specs.Scene.{pivot, no_anim}
 use Rattle.b3d_spec.specs.Tags.{Chunks, is}
 use Rattle.b3d_spec_plain_rows.specs.Flat.{rest, flat_at}
 use Rattle.b3d_spec_plain_rows.specs.Rows.{Open, node_rows, nodes_before, flat_rows, kind_of, anim_of}
-use Rattle.b3d_chunk_walk.specs.declared.Flat.{Flat}
-use Rattle.b3d_chunk_walk.specs.declared.Flat.TheVariants as flat
 
 -- the body b of a chunk whose header is at p lies in the file s
 pub record BodyAt (s : List ℕ) (p : ℕ) (b : Cursor) : Type 0 where
@@ -87,11 +87,11 @@ pub record Ends (cs : Chunks) : Type 0 where
   pub anim : anim_of cs ≡ no_anim
 
 -- the answer of `flat_next` at place `at`: the run begins with that chunk, or the run adds nothing
-abbrev pub FlatIs : List ℕ → ℕ → Flat → Type 0
-FlatIs s at (flat.Chunk t p b q) = ChunkIs s at t p b q
-FlatIs s at flat.End = Ends (flat_at s at)
+abbrev pub FlatIs : List ℕ → ℕ → std.Option FlatChunk → Type 0
+FlatIs s at (Some f) = ChunkIs s at f.tag f.at f.body f.next
+FlatIs s at None = Ends (flat_at s at)
 
 -- what `flat_next` promises of its answer r at place `at` of the file s
-pub record Steps (s : List ℕ) (at : ℕ) (r : Flat) : Type 0 where
+pub record Steps (s : List ℕ) (at : ℕ) (r : std.Option FlatChunk) : Type 0 where
   -- r is the chunk that the flat run begins with, or its end
   pub is : FlatIs s at r

@@ -11,35 +11,41 @@ use b3d_chunk_cursor::{Named, Next};
 use b3d_spec::Tag;
 use wire::Cursor;
 
-// What `flat_next` finds: the next chunk of the flat run, with its tag, the place of its header, its body and the place where the run goes on; or the run's
-// end.
+// A chunk of the flat run: its tag, the place of its header, its body and the place where the run goes on.
 #[derive(Clone, Copy)]
-pub enum Flat {
-    Chunk(Tag, usize, Cursor, usize),
-    End,
+pub struct FlatChunk {
+    pub tag: Tag,
+    pub at: usize,
+    pub body: Cursor,
+    pub next: usize,
 }
 
-// Returns the NODE at `p` with this `body`; the run goes on behind its text and ten numbers. Returns `End` if these are not all there.
-fn enter(file: &[u8], at: usize, p: usize, body: Cursor) -> Flat
+// Returns the NODE at `p` with this `body`; the run goes on behind its text and ten numbers. Returns `None` if these are not all there.
+fn enter(file: &[u8], at: usize, p: usize, body: Cursor) -> Option<FlatChunk>
     requires { NodeAt file.now at p body }
     ensures { Steps file.now at result }
 {
-    match b3d_chunk_cursor::named_row(file, body, 10) {
-        Named::Cut => Flat::End,
-        Named::Is { next, .. } => Flat::Chunk(Tag::NODE, p, body, next.at),
-    }
+    let Some(Named { next, .. }) = b3d_chunk_cursor::named_row(file, body, 10) else {
+        return None;
+    };
+    Some(FlatChunk {
+        tag: Tag::NODE,
+        at: p,
+        body,
+        next: next.at,
+    })
 }
 
-// Returns the first known chunk of the flat run of `file` from `at` on. Returns `End` at the file's end, at a cut header, at a length past the file and at a
+// Returns the first known chunk of the flat run of `file` from `at` on. Returns `None` at the file's end, at a cut header, at a length past the file and at a
 // NODE whose text or numbers are cut.
-pub fn flat_next(file: &[u8], at: usize) -> Flat
+pub fn flat_next(file: &[u8], at: usize) -> Option<FlatChunk>
     requires { at ≤ length file.now }
     ensures { Steps file.now at result }
 {
     let end = file.len();
     match b3d_chunk_cursor::next_chunk(file, Cursor { at, end }) {
-        Next::Done => Flat::End,
-        Next::Cut(_) => Flat::End,
+        Next::Done => None,
+        Next::Cut(_) => None,
         Next::Chunk {
             tag,
             at: p,
@@ -49,25 +55,27 @@ pub fn flat_next(file: &[u8], at: usize) -> Flat
             if b3d_chunk_cursor::same(tag, Tag::NODE) {
                 return enter(file, at, p, body);
             }
-            Flat::Chunk(tag, p, body, next.at)
+            Some(FlatChunk {
+                tag,
+                at: p,
+                body,
+                next: next.at,
+            })
         }
     }
 }
 
-// What `seek` finds: the first chunk of a tag, with the place of its header, its body and the cursor after it; or that there is none.
+// The first chunk of a tag, as `seek` finds it: the place of its header, its body and the cursor after it.
 #[derive(Clone, Copy)]
-pub enum Sought {
-    Found {
-        at: usize,
-        body: Cursor,
-        next: Cursor,
-    },
-    Nothing,
+pub struct Sought {
+    pub at: usize,
+    pub body: Cursor,
+    pub next: Cursor,
 }
 
-// Returns the first chunk of `tag` among those that stand one after the other from the cursor `from` on; no chunk is entered. Returns `Nothing` where there
+// Returns the first chunk of `tag` among those that stand one after the other from the cursor `from` on; no chunk is entered. Returns `None` where there
 // is none before the end, or before a header that is cut or whose length passes the end.
-pub fn seek(file: &[u8], from: Cursor, tag: Tag) -> Sought
+pub fn seek(file: &[u8], from: Cursor, tag: Tag) -> Option<Sought>
     requires { Inside from (length file.now) }
     ensures { Seeks file.now from tag result }
 {
@@ -75,10 +83,10 @@ pub fn seek(file: &[u8], from: Cursor, tag: Tag) -> Sought
     loop {
         match b3d_chunk_cursor::next_chunk(file, c) {
             Next::Done => {
-                return Sought::Nothing;
+                return None;
             }
             Next::Cut(_) => {
-                return Sought::Nothing;
+                return None;
             }
             Next::Chunk {
                 tag: t,
@@ -87,7 +95,7 @@ pub fn seek(file: &[u8], from: Cursor, tag: Tag) -> Sought
                 next,
             } => {
                 if b3d_chunk_cursor::same(t, tag) {
-                    return Sought::Found { at, body, next };
+                    return Some(Sought { at, body, next });
                 }
                 c = next;
             }

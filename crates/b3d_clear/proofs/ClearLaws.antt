@@ -1,4 +1,7 @@
 -- A law for each way through `clear`.
+use Rattle.std.specs.Prelude.{Ok, Err}
+use Rattle.std.specs.Prelude as std
+use Rattle.layout.specs.declared.Refusal.{Refusal}
 use mathlib.Core.Path.{◌≡◌, refl, ap, sym, ◌∙◌}
 use Prim.Native.Nat.{ℕ, ◌<◌, ◌≤◌}
 use native.Mathlib.Omega.{arith}
@@ -21,8 +24,6 @@ use Rattle.b3d_judge_tally.specs.declared.Tally.{Tally}
 use Rattle.b3d_judge_tally.specs.Tally.{tally_of}
 use Rattle.b3d_judge.specs.Answers.{verdict_of}
 use Rattle.b3d_judge_file_body.specs.declared.Summary.{Summary}
-use Rattle.b3d_judge_file_body.specs.declared.Verdict.{Verdict}
-use Rattle.b3d_judge_file_body.specs.declared.Verdict.TheVariants as verdict
 use Rattle.b3d_judge.proofs.VerdictLaws.{was-bad}
 use Rattle.b3d_clear_spec.specs.Copies.{file_copy}
 use Rattle.b3d_clear_spec.proofs.FileLaws.{file_copied}
@@ -38,7 +39,7 @@ record Gave (o : Result Scene) (size : ℕ) : Type 0 where
   is : o ≡ accept scene
   long : size ≡ length (copy scene)
 
-was-good : (o : Result Scene) (x : Summary) → verdict_of o ≡ verdict.Accept x → Gave o x.tally.copy
+was-good : (o : Result Scene) (x : Summary) → verdict_of o ≡ Ok x → Gave o x.tally.copy
 was-good (accept t) x e = let z : x.tally ≡ tally_of t = cc in record { scene = t; is = refl; long = ap (λ (y : Tally). y.copy) z }
 was-good (reject m q) x e = let z : ◌≡◌ {A = ℕ} 0 1 = cc in absurd (omega arith)
 
@@ -57,28 +58,28 @@ module _ (s out : List ℕ) where
   unfolding clear_output
   left_so o e ys h = h ∙ ap (λ (x : Result (List ℕ)). output_after x out) (sym e)
 
-  module _ (r : Verdict) (e : r ≡ verdict_of (judge Lenient s)) where
+  module _ (r : std.Result Summary Refusal) (e : r ≡ verdict_of (judge Lenient s)) where
     -- refused
-    module _ (n p : ℕ) (z : r ≡ verdict.Reject n p) where
-      refused : judge Lenient s ≡ reject n p
-      refused = was-bad (judge Lenient s) n p (sym e ∙ z)
+    module _ (n : Refusal) (z : r ≡ Err n) where
+      refused : judge Lenient s ≡ reject n.number n.place
+      refused = was-bad (judge Lenient s) n (sym e ∙ z)
 
-      pub clear-place : p < 0x100000000
-      clear-place = omega (arith, judge-place Lenient s n p refused)
+      pub clear-place : n.place < 0x100000000
+      clear-place = omega (arith, judge-place Lenient s n.number n.place refused)
 
-      stopped : clear s (length out) ≡ reject n p
-      stopped = clear_first s n p refused (length out)
+      stopped : clear s (length out) ≡ reject n.number n.place
+      stopped = clear_first s n.number n.place refused (length out)
 
-      pub clear-refused : (q : ℕ) → q ≡ p → record { number = n; place = q; size = 0 } ≡ clear_answer s out
+      pub clear-refused : (q : ℕ) → q ≡ n.place → record { number = n.number; place = q; size = 0 } ≡ clear_answer s out
       unfolding written
-      clear-refused q h = answered (reject n p) stopped (record { number = n; place = q; size = 0 }) (rw h)
+      clear-refused q h = answered (reject n.number n.place) stopped (record { number = n.number; place = q; size = 0 }) (rw h)
 
       pub clear-untouched : out ≡ clear_output s out
       unfolding output_after
-      clear-untouched = left_so (reject n p) stopped out refl
+      clear-untouched = left_so (reject n.number n.place) stopped out refl
 
     -- accepted
-    module _ (x : Summary) (z : r ≡ verdict.Accept x) (all : AllBytes s) where
+    module _ (x : Summary) (z : r ≡ Ok x) (all : AllBytes s) where
       gave : Gave (judge Lenient s) x.tally.copy
       gave = was-good (judge Lenient s) x (sym e ∙ z)
 

@@ -4,7 +4,6 @@
 ghost use Rattle.std.specs.Prelude.{◌≡◌};
 ghost use Rattle.b3d_spec.specs.Answers.{clear_answer, clear_output};
 
-use b3d_judge_file_body::Verdict;
 use b3d_spec::{Mode, Written};
 
 // Writes the copy without names of `file` to the start of `out`; the bytes behind it stay as they were. Returns 0 and its size. Where the lenient mode
@@ -14,12 +13,12 @@ pub fn clear(file: &[u8], out: &mut [u8]) -> Written
     ensures out_after { out.new ≡ clear_output file.now out.old }
 {
     match b3d_judge::judge(Mode::Lenient, file) {
-        Verdict::Reject(number, place) => Written {
-            number,
-            place: shared_table_words::cell(place),
+        Err(e) => Written {
+            number: e.number,
+            place: shared_table_words::cell(e.place),
             size: 0,
         },
-        Verdict::Accept(x) => {
+        Ok(x) => {
             b3d_judge::are_bytes(file);
             let answer = b3d_spec_output_answer::answer_of(x.tally.copy, out.len());
             if answer.number != 0 {

@@ -1,4 +1,6 @@
 -- A law for each way through `clear_mesh`.
+use Rattle.std.specs.Prelude.{Some, None}
+use Rattle.std.specs.Prelude as std
 use mathlib.Core.Path.{◌≡◌, refl, ap, sym, subst}
 use Prim.Native.Nat.{ℕ, ◌≤◌}
 use mathlib.Core.List.{List}
@@ -6,8 +8,6 @@ use lib.ListN.{length}
 use Rattle.wire.specs.Bytes.{bytes}
 use Rattle.wire.specs.Cursors.{left, number_at}
 use Rattle.wire.specs.declared.Cursor.{Cursor}
-use Rattle.wire.specs.declared.Number.{Number}
-use Rattle.wire.specs.declared.Number.TheVariants as number
 use Rattle.layout.specs.Rules.{any}
 use Rattle.layout.specs.Rows.{most_bytes}
 use Rattle.shared_output.specs.Writing.{Room, Put}
@@ -19,12 +19,12 @@ use Rattle.b3d_spec_chunk_places.proofs.HeadLaws.{head_cut, head_got}
 use Rattle.b3d_clear_spec.specs.Copies.{chunk_of, chunks_at, in_mesh, mesh_of, mesh_copy}
 use Rattle.b3d_clear_materials.proofs.ListLaws.{texs_inside, list_inside}
 
-module _ (s : List ℕ) (at : ℕ) (b : Cursor) (body : Body at b (length s)) (out : List ℕ) (r : Number) (e : r ≡ number_at s b) where
-  pub mesh-cut : r ≡ number.Cut → Put (mesh_copy at (left b s)) out out 0
+module _ (s : List ℕ) (at : ℕ) (b : Cursor) (body : Body at b (length s)) (out : List ℕ) (r : std.Option (ℕ × Cursor)) (e : r ≡ number_at s b) where
+  pub mesh-cut : r ≡ None → Put (mesh_copy at (left b s)) out out 0
   unfolding mesh_copy mesh_of
   mesh-cut w = none-put (mesh_copy at (left b s)) out (ap mesh_of (head_cut s at b body r e any w))
 
-  module _ (k : ℕ) (c : Cursor) (w : r ≡ number.Is k c) where
+  module _ (k : ℕ) (c : Cursor) (w : r ≡ Some (k, c)) where
     mesh-is : mesh_copy at (left b s) ≡ chunk_of (code MESH) (bytes k (in_mesh (chunks_at s c)))
     unfolding mesh_copy mesh_of
     mesh-is = ap mesh_of (head_got s at b body r e k c w any refl)

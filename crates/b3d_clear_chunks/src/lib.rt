@@ -13,7 +13,7 @@ ghost use Rattle.b3d_clear_spec.specs.Copies.{chunk_of, each, chunks_at, in_mesh
 
 use b3d_chunk_walk::Sought;
 use b3d_spec::{Tag, letters};
-use wire::{Cursor, Number};
+use wire::Cursor;
 
 // Writes a MESH of `brush` and of each VRTS, then each TRIS, from the cursor `from` on. Returns its size.
 fn mesh_chunk(file: &[u8], from: Cursor, brush: u32, out: &mut [u8]) -> usize
@@ -32,10 +32,10 @@ fn clear_mesh(file: &[u8], at: usize, body: Cursor, out: &mut [u8]) -> usize
     requires room { Room (mesh_copy at (left body file.now)) out.old }
     ensures { Put (mesh_copy at (left body file.now)) out.old out.new result }
 {
-    match body.number(file) {
-        Number::Cut => 0,
-        Number::Is(brush, from) => mesh_chunk(file, from, brush, out),
-    }
+    let Some((brush, from)) = body.number(file) else {
+        return 0;
+    };
+    mesh_chunk(file, from, brush, out)
 }
 
 // Writes what the chunk of `tag` at `at` with this `body` becomes; a NODE is taken as it is. Returns its size.
@@ -61,15 +61,11 @@ pub fn clear_each(file: &[u8], from: Cursor, tag: Tag, out: &mut [u8]) -> usize
     let mut c = from;
     let mut n: usize = 0;
     loop {
-        match b3d_chunk_walk::seek(file, c, tag) {
-            Sought::Nothing => {
-                return n;
-            }
-            Sought::Found { at, body, next } => {
-                let m = clear_chunk(file, at, body, tag, &mut out[n..]);
-                n += m;
-                c = next;
-            }
-        }
+        let Some(Sought { at, body, next }) = b3d_chunk_walk::seek(file, c, tag) else {
+            return n;
+        };
+        let m = clear_chunk(file, at, body, tag, &mut out[n..]);
+        n += m;
+        c = next;
     }
 }

@@ -1,4 +1,7 @@
 -- Each chunk of a tag, written one after the other: what the loop has come to, and a law for each way on.
+use Rattle.std.specs.Prelude.{Some, None}
+use Rattle.std.specs.Prelude as std
+use Rattle.b3d_chunk_walk.specs.declared.Sought.{Sought}
 use mathlib.Core.Path.{◌≡◌, refl, ap, sym, ◌∙◌}
 use Prim.Native.Nat.{ℕ, ◌+◌, ◌-◌, ◌<◌, ◌≤◌}
 use native.Mathlib.Omega.{arith}
@@ -16,8 +19,6 @@ use Rattle.layout.proofs.ResultLaws.{if_yes, if_no}
 use Rattle.b3d_spec.specs.Tags.{Chunks, code, is}
 use Rattle.b3d_spec.specs.declared.Tag.{Tag}
 use Rattle.b3d_chunk_walk.specs.Seeks.{Seeks, seek_of}
-use Rattle.b3d_chunk_walk.specs.declared.Sought.{Sought}
-use Rattle.b3d_chunk_walk.specs.declared.Sought.TheVariants as sought
 use Rattle.b3d_chunk_walk.proofs.SeekLaws.{sought_none, sought_is, sought_among, by_seek}
 use Rattle.b3d_spec_chunk_places.specs.Places.{Body}
 use Rattle.b3d_spec_chunk_places.proofs.HeadLaws.{body-inside}
@@ -53,42 +54,42 @@ module _ (s : List ℕ) (k : Tag) (one : ℕ → List ℕ → List ℕ) (from : 
     finish : each k one (chunks_at s c) ≡ [] → Put (each k one (chunks_at s from)) out₀ out n
     finish e = pieces-done (rw e at v.pieces)
 
-    module _ (r : Sought) (x : Seeks s c k r) where
-      pub each_done : r ≡ sought.Nothing → Put (each k one (chunks_at s from)) out₀ out n
+    module _ (r : std.Option Sought) (x : Seeks s c k r) where
+      pub each_done : r ≡ None → Put (each k one (chunks_at s from)) out₀ out n
       unfolding each
       each_done w = finish (each_seek k one (chunks_at s c) ∙ ap (each k one) (sought_none s c k r x w))
 
-      module _ (p : ℕ) (b m : Cursor) (w : r ≡ sought.Found p b m) where
-        pub each_body : Body p b (length s)
-        each_body = let f = sought_among s c k r x p b m w in record { head = f.body; room = f.room; within = omega (arith, v.inside.within); small = v.small }
+      module _ (g : Sought) (w : r ≡ Some g) where
+        pub each_body : Body g.at g.body (length s)
+        each_body = let f = sought_among s c k r x g w in record { head = f.body; room = f.room; within = omega (arith, v.inside.within); small = v.small }
 
-        pub each_bytes : Inside b (length s)
-        each_bytes = body-inside s p b each_body
+        pub each_bytes : Inside g.body (length s)
+        each_bytes = body-inside s g.at g.body each_body
 
-        pub each_less : m.end - m.at < c.end - c.at
-        each_less = let f = sought_among s c k r x p b m w in omega arith
+        pub each_less : g.next.end - g.next.at < c.end - c.at
+        each_less = let f = sought_among s c k r x g w in omega arith
 
-        module _ (piece : List ℕ) (same : piece ≡ one p (left b s)) where
-          step : each k one (chunks_at s c) ≡ piece ++ each k one (chunks_at s m)
+        module _ (piece : List ℕ) (same : piece ≡ one g.at (left g.body s)) where
+          step : each k one (chunks_at s c) ≡ piece ++ each k one (chunks_at s g.next)
           unfolding each
           step =
-              each_seek k one (chunks_at s c) ∙ ap (each k one) (sought_is s c k r x p b m w)
-              ∙ if_yes (is k k) (one p (left b s) ++ each k one (chunks_at s m)) (each k one (chunks_at s m)) (eqb_refl (code k))
-              ∙ ap (λ (l : List ℕ). l ++ each k one (chunks_at s m)) (sym same)
+              each_seek k one (chunks_at s c) ∙ ap (each k one) (sought_is s c k r x g w)
+              ∙ if_yes (is k k) (one g.at (left g.body s) ++ each k one (chunks_at s g.next)) (each k one (chunks_at s g.next)) (eqb_refl (code k))
+              ∙ ap (λ (l : List ℕ). l ++ each k one (chunks_at s g.next)) (sym same)
 
           pub each_room : Room piece (take (length out - n) (drop n out))
-          each_room = piece-room v.pieces piece (each k one (chunks_at s m)) step
+          each_room = piece-room v.pieces piece (each k one (chunks_at s g.next)) step
 
           module _ (zs : List ℕ) (size : ℕ) (h : Put piece (take (length out - n) (drop n out)) zs size) where
-            on : Pieces 0 (each k one (chunks_at s from)) (each k one (chunks_at s m)) out₀ (take n out ++ (zs ++ drop (length out - n) (drop n out))) (n + size)
-            on = piece-next v.pieces piece (each k one (chunks_at s m)) step h
+            on : Pieces 0 (each k one (chunks_at s from)) (each k one (chunks_at s g.next)) out₀ (take n out ++ (zs ++ drop (length out - n) (drop n out))) (n + size)
+            on = piece-next v.pieces piece (each k one (chunks_at s g.next)) step h
 
             pub each_sum : Fits w64 (n + size)
             each_sum = record { fits = omega (arith, on.below) }
 
-            pub each_more : EachLeft s k one from out₀ (take n out ++ (zs ++ drop (length out - n) (drop n out))) m (n + size)
+            pub each_more : EachLeft s k one from out₀ (take n out ++ (zs ++ drop (length out - n) (drop n out))) g.next (n + size)
             each_more =
-                let f = sought_among s c k r x p b m w in
+                let f = sought_among s c k r x g w in
                 record { inside = record { before = f.to; within = omega (arith, v.inside.within) }; small = v.small; pieces = on }
 
 pub ruleset each_laws = (each_start, each_inside, each_long, each_at, each_done, each_body, each_bytes, each_less, each_room, each_sum, each_more)

@@ -35,16 +35,12 @@ pub fn copy_each(file: &[u8], from: Cursor, tag: Tag, out: &mut [u8]) -> usize
     let mut c = from;
     let mut n: usize = 0;
     loop {
-        match b3d_chunk_walk::seek(file, c, tag) {
-            Sought::Nothing => {
-                return n;
-            }
-            Sought::Found { body, next, .. } => {
-                let m = copy_chunk(file, body, tag, &mut out[n..]);
-                n += m;
-                c = next;
-            }
-        }
+        let Some(Sought { body, next, .. }) = b3d_chunk_walk::seek(file, c, tag) else {
+            return n;
+        };
+        let m = copy_chunk(file, body, tag, &mut out[n..]);
+        n += m;
+        c = next;
     }
 }
 

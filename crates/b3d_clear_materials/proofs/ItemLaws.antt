@@ -1,4 +1,7 @@
 -- Items that are a text and words, each written as an empty text and its words.
+use Rattle.std.specs.Prelude.{Some, None}
+use Rattle.std.specs.Prelude as std
+use Rattle.b3d_chunk_cursor.specs.declared.Named.{Named}
 use mathlib.Core.Path.{◌≡◌, refl, ap, sym, ◌∙◌}
 use Prim.Native.Nat.{ℕ, ◌+◌, ◌-◌, ◌*◌, ◌<◌, ◌≤◌}
 use native.Mathlib.Omega.{arith}
@@ -19,8 +22,6 @@ use Rattle.shared_output.specs.Writing.{Wrote, Room, Put}
 use Rattle.shared_output.proofs.PieceLaws.{Pieces, pieces_none, piece-room, piece-next, pieces-done}
 use Rattle.shared_output.proofs.WroteLaws.{wrote_none, wrote-byte, wrote-part, part_length}
 use Rattle.b3d_chunk_cursor.specs.Chunks.{named_at, NamedIn}
-use Rattle.b3d_chunk_cursor.specs.declared.Named.{Named}
-use Rattle.b3d_chunk_cursor.specs.declared.Named.TheVariants as named
 use Rattle.b3d_chunk_cursor.proofs.NamedLaws.{named-cut, named-any, named-among}
 use Rattle.b3d_clear_spec.specs.Copies.{unnamed, item_of, unnamed_items}
 use Rattle.b3d_clear_spec.proofs.ExactLaws.{words-of_exact}
@@ -89,39 +90,39 @@ module _ (s : List ℕ) (words : ℕ) (from : Cursor) where
     pub items_at : n ≤ length out
     items_at = v.pieces.inside
 
-    module _ (r : Named) (e : r ≡ named_at s c words) where
-      pub items_done : r ≡ named.Cut → Put (unnamed_items words from.at (left from s)) out₀ out n
+    module _ (r : std.Option Named) (e : r ≡ named_at s c words) where
+      pub items_done : r ≡ None → Put (unnamed_items words from.at (left from s)) out₀ out n
       unfolding item_of
       items_done q =
           let z : unnamed_items words c.at (left c s) ≡ [] =
           items-step words c.at (left c s) ∙ ap (item_of (unnamed_items words)) (named-cut s c words v.inside (replicate words any) (length-replicate words any) r e q) in
           pieces-done (rw z at v.pieces)
 
-      module _ (ir : NamedIn c words r) (len : ℕ) (w m : Cursor) (q : r ≡ named.Is len w m) where
-        pub items_row : Inside w (length s)
-        items_row = let f = named-among c words r ir len w m q in record { before = omega arith; within = omega (arith, v.inside.within) }
+      module _ (ir : NamedIn c words r) (g : Named) (q : r ≡ Some g) where
+        pub items_row : Inside g.row (length s)
+        items_row = let f = named-among c words r ir g q in record { before = omega arith; within = omega (arith, v.inside.within) }
 
-        pub items_words : w.at + 4 * words ≤ w.end
-        items_words = let f = named-among c words r ir len w m q in omega arith
+        pub items_words : g.row.at + 4 * words ≤ g.row.end
+        items_words = let f = named-among c words r ir g q in omega arith
 
-        pub items_less : m.end - m.at < c.end - c.at
-        items_less = let f = named-among c words r ir len w m q in omega arith
+        pub items_less : g.next.end - g.next.at < c.end - c.at
+        items_less = let f = named-among c words r ir g q in omega arith
 
-        step : unnamed_items words c.at (left c s) ≡ unnamed (words_of words (left w s)) ++ unnamed_items words m.at (left m s)
+        step : unnamed_items words c.at (left c s) ≡ unnamed (words_of words (left g.row s)) ++ unnamed_items words g.next.at (left g.next s)
         unfolding item_of
-        step = items-step words c.at (left c s) ∙ ap (item_of (unnamed_items words)) (named-any s c words v.inside r e len w m q)
+        step = items-step words c.at (left c s) ∙ ap (item_of (unnamed_items words)) (named-any s c words v.inside r e g q)
 
-        pub items_room : Room (unnamed (words_of words (left w s))) (take (length out - n) (drop n out))
-        items_room = piece-room v.pieces (unnamed (words_of words (left w s))) (unnamed_items words m.at (left m s)) step
+        pub items_room : Room (unnamed (words_of words (left g.row s))) (take (length out - n) (drop n out))
+        items_room = piece-room v.pieces (unnamed (words_of words (left g.row s))) (unnamed_items words g.next.at (left g.next s)) step
 
-        module _ (zs : List ℕ) (size : ℕ) (h : Put (unnamed (words_of words (left w s))) (take (length out - n) (drop n out)) zs size) where
-          on : Pieces 0 (unnamed_items words from.at (left from s)) (unnamed_items words m.at (left m s)) out₀ (take n out ++ (zs ++ drop (length out - n) (drop n out))) (n + size)
-          on = piece-next v.pieces (unnamed (words_of words (left w s))) (unnamed_items words m.at (left m s)) step h
+        module _ (zs : List ℕ) (size : ℕ) (h : Put (unnamed (words_of words (left g.row s))) (take (length out - n) (drop n out)) zs size) where
+          on : Pieces 0 (unnamed_items words from.at (left from s)) (unnamed_items words g.next.at (left g.next s)) out₀ (take n out ++ (zs ++ drop (length out - n) (drop n out))) (n + size)
+          on = piece-next v.pieces (unnamed (words_of words (left g.row s))) (unnamed_items words g.next.at (left g.next s)) step h
 
           pub items_sum : Fits w64 (n + size)
           items_sum = record { fits = omega (arith, on.below) }
 
-          pub items_more : ItemsLeft s words from out₀ (take n out ++ (zs ++ drop (length out - n) (drop n out))) m (n + size)
-          items_more = let f = named-among c words r ir len w m q in record { inside = record { before = f.to; within = omega (arith, v.inside.within) }; pieces = on }
+          pub items_more : ItemsLeft s words from out₀ (take n out ++ (zs ++ drop (length out - n) (drop n out))) g.next (n + size)
+          items_more = let f = named-among c words r ir g q in record { inside = record { before = f.to; within = omega (arith, v.inside.within) }; pieces = on }
 
 pub ruleset item_laws = (items_start, items_inside, items_long, items_at, items_done, items_row, items_words, items_less, items_room, items_sum, items_more)

@@ -1,4 +1,6 @@
 -- A law for each way through `clear_textures` and `clear_brushes`.
+use Rattle.std.specs.Prelude.{Some, None}
+use Rattle.std.specs.Prelude as std
 use mathlib.Core.Path.{◌≡◌, refl, ap, sym, subst, ◌∙◌}
 use Prim.Native.Nat.{ℕ, ◌+◌, ◌<◌, ◌≤◌}
 use native.Mathlib.Omega.{arith}
@@ -7,8 +9,6 @@ use lib.ListN.{length}
 use Rattle.wire.specs.Bytes.{bytes}
 use Rattle.wire.specs.Cursors.{Inside, left, number_at}
 use Rattle.wire.specs.declared.Cursor.{Cursor}
-use Rattle.wire.specs.declared.Number.{Number}
-use Rattle.wire.specs.declared.Number.TheVariants as number
 use Rattle.wire.proofs.LeftLaws.{left-length, left-nil}
 use Rattle.layout.specs.Rules.{up_to}
 use Rattle.shared_output.specs.Writing.{Room, Put}
@@ -49,12 +49,12 @@ pub ruleset texs_laws = (texs_inside, texs_none, texs_room, texs_done)
 
 -- ---- BRUS, by the number that stands first
 
-module _ (s : List ℕ) (at : ℕ) (b : Cursor) (body : Body at b (length s)) (out : List ℕ) (r : Number) (e : r ≡ number_at s b) where
-  pub brus_cut : r ≡ number.Cut → Put (brus_copy at (left b s)) out out 0
+module _ (s : List ℕ) (at : ℕ) (b : Cursor) (body : Body at b (length s)) (out : List ℕ) (r : std.Option (ℕ × Cursor)) (e : r ≡ number_at s b) where
+  pub brus_cut : r ≡ None → Put (brus_copy at (left b s)) out out 0
   unfolding brus_copy brus_of
   brus_cut w = none-put (brus_copy at (left b s)) out (ap brus_of (head_cut s at b body r e (up_to 8) w))
 
-  module _ (k : ℕ) (c : Cursor) (w : r ≡ number.Is k c) where
+  module _ (k : ℕ) (c : Cursor) (w : r ≡ Some (k, c)) where
     pub list_inside : Inside c (length s)
     list_inside = head-inside s at b body r e k c w
 

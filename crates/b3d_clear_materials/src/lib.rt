@@ -13,7 +13,7 @@ ghost use Rattle.b3d_clear_spec.specs.Copies.{chunk_of, unnamed, unnamed_items, 
 
 use b3d_chunk_cursor::Named;
 use b3d_spec::{MOST_SLOTS, letters};
-use wire::{Cursor, Number};
+use wire::Cursor;
 
 // Writes an empty text and the `words` words of `file` at `row`. Returns the size.
 pub fn put_unnamed(file: &[u8], row: Cursor, words: usize, out: &mut [u8]) -> usize
@@ -35,20 +35,19 @@ fn clear_items(file: &[u8], from: Cursor, words: usize, out: &mut [u8]) -> usize
     let mut c = from;
     let mut n: usize = 0;
     loop {
-        match b3d_chunk_cursor::named_row(file, c, words) {
-            Named::Cut => {
-                return n;
-            }
-            Named::Is {
+        let Some(
+            Named {
                 row,
                 next: after,
                 ..
-            } => {
-                let size = put_unnamed(file, row, words, &mut out[n..]);
-                n += size;
-                c = after;
-            }
-        }
+            },
+        ) = b3d_chunk_cursor::named_row(file, c, words)
+        else {
+            return n;
+        };
+        let size = put_unnamed(file, row, words, &mut out[n..]);
+        n += size;
+        c = after;
     }
 }
 
@@ -93,17 +92,15 @@ pub fn clear_brushes(file: &[u8], at: usize, body: Cursor, out: &mut [u8]) -> us
     requires room { Room (brus_copy at (left body file.now)) out.old }
     ensures { Put (brus_copy at (left body file.now)) out.old out.new result }
 {
-    match body.number(file) {
-        Number::Cut => 0,
-        Number::Is(slots, items) => {
-            if MOST_SLOTS < slots {
-                return 0;
-            }
-            if items.end <= items.at {
-                return 0;
-            }
-            let words = 7 + wire::size(slots);
-            brus_chunk(file, items, slots, words, out)
-        }
+    let Some((slots, items)) = body.number(file) else {
+        return 0;
+    };
+    if MOST_SLOTS < slots {
+        return 0;
     }
+    if items.end <= items.at {
+        return 0;
+    }
+    let words = 7 + wire::size(slots);
+    brus_chunk(file, items, slots, words, out)
 }

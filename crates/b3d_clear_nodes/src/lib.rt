@@ -64,10 +64,10 @@ fn clear_node(file: &[u8], at: usize, body: Cursor, levels: u32, out: &mut [u8])
     if levels == 0 {
         return 0;
     }
-    match b3d_chunk_cursor::named_row(file, body, 10) {
-        Named::Cut => 0,
-        Named::Is { row, next, .. } => node_chunk(file, row, next, levels - 1, out),
-    }
+    let Some(Named { row, next, .. }) = b3d_chunk_cursor::named_row(file, body, 10) else {
+        return 0;
+    };
+    node_chunk(file, row, next, levels - 1, out)
 }
 
 // Writes a NODE of its ten words at `row` and the chunks from `next` on; the nodes below it have `levels` levels left. Returns its size.
@@ -97,15 +97,11 @@ pub fn clear_nodes(file: &[u8], from: Cursor, levels: u32, out: &mut [u8]) -> us
     let mut c = from;
     let mut n: usize = 0;
     loop {
-        match b3d_chunk_walk::seek(file, c, Tag::NODE) {
-            Sought::Nothing => {
-                return n;
-            }
-            Sought::Found { at, body, next } => {
-                let m = clear_node(file, at, body, levels, &mut out[n..]);
-                n += m;
-                c = next;
-            }
-        }
+        let Some(Sought { at, body, next }) = b3d_chunk_walk::seek(file, c, Tag::NODE) else {
+            return n;
+        };
+        let m = clear_node(file, at, body, levels, &mut out[n..]);
+        n += m;
+        c = next;
     }
 }

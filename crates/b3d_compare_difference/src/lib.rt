@@ -95,12 +95,10 @@ fn same_bytes(a: &[u8], b: &[u8], p: usize, q: usize, n: usize) -> bool
     requires n_in_bounds_2 { q + n ≤ length b.now }
     ensures { result ≡ same (take n (drop p a.now)) (take n (drop q b.now)) }
 {
-    let mut i: usize = 0;
-    while i < n {
+    for i in 0..n {
         if a[p + i] != b[q + i] {
             return false;
         }
-        i += 1;
     }
     true
 }

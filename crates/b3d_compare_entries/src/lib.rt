@@ -17,10 +17,8 @@ fn put_numbers(ns: [u32; 5], wet: bool, out: &mut [u8], at: usize) -> usize
     ensures { Emits wet (write_numbers ns []) out.old at out.new result }
 {
     let mut next = at;
-    let mut i: usize = 0;
-    while i < 5 {
+    for i in 0..5 {
         next = shared_put_or_count::put_grouped(ns[i], wet, out, next);
-        i += 1;
     }
     next
 }

@@ -50,10 +50,10 @@ module _ (a b : List ℕ) where
       unfolding tables_bytes
       tables_done h = left-done wet (tables_bytes a b tables) xs at ys next (rest k) g.left (ap (tables_bytes a b) (from_end k h))
 
-      module _ (h : k ≤ 10) where
+      module _ (h : k < 11) where
         two : Both (rest k) (table_bytes k a b) (rest (k + 1))
         unfolding tables_bytes
-        two = record { is = ap (tables_bytes a b) (from_step k h) }
+        two = record { is = ap (tables_bytes a b) (from_step k (omega arith)) }
 
         pub tables_fit : RoomFrom wet (table_bytes k a b) next ys
         tables_fit = left-fits wet (tables_bytes a b tables) xs at ys next (rest k) g.left (table_bytes k a b) (rest (k + 1)) two
@@ -74,13 +74,13 @@ module _ (a b : List ℕ) where
           index_low = omega (arith, g.wide)
 
           pub tables_first : Comparable k (get_or x (kk + 1) 0) a
-          tables_first = rows-known a x g.first k g.low h kk ek
+          tables_first = rows-known a x g.first k g.low (omega arith) kk ek
 
           pub tables_second : Comparable k (get_or x (kk + 1) 0) b
-          tables_second = rows-known b x g.second k g.low h kk ek
+          tables_second = rows-known b x g.second k g.low (omega arith) kk ek
 
           pub tables_few : get_or x (kk + 1) 0 ≤ 2097151
-          tables_few = rows_few a x g.first k g.low h kk ek
+          tables_few = rows_few a x g.first k g.low (omega arith) kk ek
 
 -- ---- `put_list`
 

@@ -13,13 +13,11 @@ fn put_cells(a: &[u8], b: &[u8], x: [u32; 12], wet: bool, out: &mut [u8], at: us
     ensures { Emits wet (tables_bytes a.now b.now tables) out.old at out.new result }
 {
     let mut next = at;
-    let mut k: u32 = 1;
-    while k <= 10 {
+    for k in 1..11 {
         let mut p = [0u32; VERTEX_WIDTH];
         let mut q = [0u32; VERTEX_WIDTH];
         let i = wire::size(k) + 1;
         next = b3d_compare_tables::put_table(a, b, k, x[i], &mut p, &mut q, wet, out, next);
-        k += 1;
     }
     next
 }

@@ -64,15 +64,12 @@ pub fn columns(k: u32, flags: u32, sets: u32, size: u32) -> [u32; 42]
 {
     let mut out: [u32; 42] = [0; 42];
     let mut n: usize = 0;
-    let mut w: u32 = 0;
-    while w < 42 {
+    for w in 0..42 {
         if !item_has(k, flags, sets, size, w) {
-            w += 1;
             continue;
         }
         out[n] = w;
         n += 1;
-        w += 1;
     }
     out
 }
@@ -111,14 +108,12 @@ pub fn put_item_words(
         out.old at out.new result }
 {
     let mut next = at;
-    let mut i: usize = 0;
-    while i < n {
+    for i in 0..n {
         let x = wire::number_at(a, p + 4 * i);
         let y = wire::number_at(b, q + 4 * i);
         let w = cols[i];
         let float = item_float(k, w);
         next = b3d_compare_rows::put_pair(a, b, k, r, w, float, x, y, wet, out, next);
-        i += 1;
     }
     next
 }

@@ -1,4 +1,6 @@
 -- What the entries of the names of two rows are, and a law for each way through the functions.
+use Rattle.std.specs.Prelude.{Some, None}
+use Rattle.std.specs.Prelude as std
 use mathlib.Core.Path.{◌≡◌, refl, ap, ◌∙◌}
 use Prim.Native.Nat.{ℕ, ◌<◌, ◌≤◌}
 use native.Mathlib.Omega.{arith}
@@ -23,8 +25,6 @@ use Rattle.b3d_compare_difference.specs.Spans.{SpanWithin, SpanIs, Clean}
 use Rattle.b3d_compare_entries.specs.Entries.{Lies, change_of}
 use Rattle.b3d_compare_entries.proofs.EntryLaws.{one-bytes, no_bytes}
 use Rattle.b3d_compare_names.specs.NameEntries.{name_entries, NamesAre}
-use Rattle.b3d_compare_names.specs.declared.Names.{Names}
-use Rattle.b3d_compare_names.specs.declared.Names.TheVariants.{Same, Differ}
 
 -- ---- `row_names`
 
@@ -74,28 +74,28 @@ module _ (a b x y : List ℕ) (s t : Span) (hs : SpanIs a (get_or x 0 0) (get_or
   second_lies = ht.lies
 
   module _ (f : Bool) (e : f ≡ same (span_text a s) (span_text b t)) where
-    pub names_same : f ≡ true → NamesAre a b x y Same
+    pub names_same : f ≡ true → NamesAre a b x y None
     unfolding name_entries
     names_same g = record { is = λ k r h i. no_name k h i a b x y r s t hs ht f e g; fine = tt }
 
-    pub names-differ : f ≡ false → NamesAre a b x y (Differ (Texts s t))
+    pub names-differ : f ≡ false → NamesAre a b x y (Some (Texts s t))
     unfolding name_entries
     names-differ g = record { is = λ k r h i. a_name k h i a b x y r s t hs ht f e g; fine = (tt, (hs.lies, ht.lies)) }
 
 pub ruleset names_laws = (first_lies, second_lies, names_same, names-differ)
 
 -- the bytes of a name's entry
-module _ (k r : ℕ) (h : 0 < k) (i : k < 4) (a b x y : List ℕ) (n : Names) (g : NamesAre a b x y n) where
-  pub same_bytes : n ≡ Same → list_bytes (word_changes k a b r x y 0 2) ≡ []
+module _ (k r : ℕ) (h : 0 < k) (i : k < 4) (a b x y : List ℕ) (n : std.Option Difference) (g : NamesAre a b x y n) where
+  pub same_bytes : n ≡ None → list_bytes (word_changes k a b r x y 0 2) ≡ []
   unfolding name_entries
   same_bytes e = ap list_bytes (g.is k r h i ∙ rw e) ∙ no_bytes
 
-  module _ (d : Difference) (e : n ≡ Differ d) where
+  module _ (d : Difference) (e : n ≡ Some d) where
     pub differ-bytes : list_bytes (word_changes k a b r x y 0 2) ≡ change_bytes (change_of a b k r 0 d) []
     unfolding name_entries
     differ-bytes = ap list_bytes (g.is k r h i ∙ rw e) ∙ one-bytes (change_of a b k r 0 d)
 
-module _ (a b x y : List ℕ) (n : Names) (g : NamesAre a b x y n) (d : Difference) (e : n ≡ Differ d) where
+module _ (a b x y : List ℕ) (n : std.Option Difference) (g : NamesAre a b x y n) (d : Difference) (e : n ≡ Some d) where
   pub name-clean : Clean d
   name-clean = (rw e at g.fine).0
 
@@ -104,11 +104,11 @@ module _ (a b x y : List ℕ) (n : Names) (g : NamesAre a b x y n) (d : Differen
 
 -- ---- `put_name`
 
-module _ (k r : ℕ) (h : 0 < k) (i : k < 4) (a b x y : List ℕ) (n : Names) (g : NamesAre a b x y n) (wet : Bool) (xs : List ℕ) (at : ℕ) where
-  pub name-same : n ≡ Same → Emits wet (list_bytes (word_changes k a b r x y 0 2)) xs at xs at
+module _ (k r : ℕ) (h : 0 < k) (i : k < 4) (a b x y : List ℕ) (n : std.Option Difference) (g : NamesAre a b x y n) (wet : Bool) (xs : List ℕ) (at : ℕ) where
+  pub name-same : n ≡ None → Emits wet (list_bytes (word_changes k a b r x y 0 2)) xs at xs at
   name-same e = emits_none wet (list_bytes (word_changes k a b r x y 0 2)) xs at (same_bytes k r h i a b x y n g e)
 
-  module _ (d : Difference) (e : n ≡ Differ d) where
+  module _ (d : Difference) (e : n ≡ Some d) where
     pub name_fits : RoomFrom wet (list_bytes (word_changes k a b r x y 0 2)) at xs → RoomFrom wet (change_bytes (change_of a b k r 0 d) []) at xs
     name_fits f = fits-same (differ-bytes k r h i a b x y n g d e) wet xs at f
 

@@ -11,15 +11,9 @@ ghost use Rattle.b3d_compare_names.specs.NameEntries.{NamesAre};
 
 use b3d_compare_spec::Difference;
 
-// The names of two rows: the same text, or two.
-#[derive(Clone, Copy)]
-pub enum Names {
-    Same,
-    Differ(Difference),
-}
-
-// Returns the names of the row `x` of `a` and the row `y` of `b`, each of which begins with the place and the length of one.
-fn row_names(a: &[u8], b: &[u8], x: &[u32], y: &[u32]) -> Names
+// Returns the names of the row `x` of `a` and the row `y` of `b`, each of which begins with the place and the length of one, as two texts; `None` where they
+// are the same.
+fn row_names(a: &[u8], b: &[u8], x: &[u32], y: &[u32]) -> Option<Difference>
     requires in_bounds { 2 ≤ length x.now }
     requires in_bounds_2 { 2 ≤ length y.now }
     ensures { NamesAre a.now b.now x.now y.now result }
@@ -27,9 +21,9 @@ fn row_names(a: &[u8], b: &[u8], x: &[u32], y: &[u32]) -> Names
     let s = b3d_compare_difference::span_of(a, x[0], x[1]);
     let t = b3d_compare_difference::span_of(b, y[0], y[1]);
     if b3d_compare_difference::same_text(a, b, s, t) {
-        return Names::Same;
+        return None;
     }
-    Names::Differ(Difference::Texts(s, t))
+    Some(Difference::Texts(s, t))
 }
 
 // Puts or counts the entry of the names of the row `x` of `a` and the row `y` of `b`, row `r` of table `k`, none where they are the same. Returns the place
@@ -52,9 +46,8 @@ pub fn put_name(
     ensures { Emits wet (list_bytes (word_changes k a.now b.now r x.now y.now 0 2)) out.old at
         out.new result }
 {
-    let n = row_names(a, b, x, y);
-    match n {
-        Names::Same => at,
-        Names::Differ(d) => b3d_compare_entries::put_entry(a, b, k as u32, r, 0, d, wet, out, at),
-    }
+    let Some(d) = row_names(a, b, x, y) else {
+        return at;
+    };
+    b3d_compare_entries::put_entry(a, b, k as u32, r, 0, d, wet, out, at)
 }

@@ -131,10 +131,8 @@ fn put_plain(
 {
     let n = words_of(k);
     let mut next = at;
-    let mut w = from;
-    while w < n {
+    for w in from..n {
         next = put_word(a, b, k, r, w, x[w], y[w], wet, out, next);
-        w += 1;
     }
     next
 }

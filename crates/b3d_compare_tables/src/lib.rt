@@ -72,6 +72,7 @@ pub fn put_table(
     let mut x = b3d_rows::start(a, k);
     let mut y = b3d_rows::start(b, k);
     let mut next = at;
+    // Stays a `while`: a turn compares as many rows as the open chunks have in common, or one where their shapes differ.
     let mut r: u32 = 0;
     while r < rows {
         let t = put_rows(a, b, k, r, x, y, p, q, wet, out, next);

@@ -1,4 +1,9 @@
 -- The loop of `judge_animation`: what it has come to, and a law for each way on.
+use Rattle.layout.specs.Refused.{refusal_at}
+use Rattle.std.specs.Prelude.{Ok, Err, Some, None}
+use Rattle.std.specs.Prelude as std
+use Rattle.layout.specs.declared.Refusal.{Refusal}
+use Rattle.b3d_chunk_next_allowed.specs.declared.Enclosed.{Enclosed}
 use mathlib.Core.Path.{refl, ap, sym, subst, ◌≡◌, ◌∙◌}
 use Prim.Native.Nat.{ℕ, ◌≤◌, ◌+◌, ◌-◌}
 use native.Mathlib.Omega.{arith}
@@ -33,18 +38,12 @@ use Rattle.b3d_judge_tally.specs.Tally.{no_tally, bytes_tally, list_tally, lists
 use Rattle.b3d_spec_chunk_places.specs.Places.{rest_in, Among}
 use Rattle.b3d_judge_tally.specs.Answers.{Judges}
 use Rattle.b3d_judge_tally.specs.declared.Tally.{Tally}
-use Rattle.b3d_judge_tally.specs.declared.Judged.{Judged}
-use Rattle.b3d_judge_tally.specs.declared.Judged.TheVariants as judge
 use Rattle.b3d_judge_tally.proofs.TallyLaws.{none-plus}
 use Rattle.b3d_rule_nesting_order.specs.declared.Reached.{Reached as State}
-use Rattle.b3d_chunk_next_allowed.specs.declared.Enclosed.{Enclosed}
-use Rattle.b3d_chunk_next_allowed.specs.declared.Enclosed.TheVariants as enclosed
 use Rattle.b3d_rule_nesting_order.specs.Turns.{reached_of}
 use Rattle.b3d_chunk_next_allowed.specs.Steps.{EnclosedIs}
 use Rattle.b3d_chunk_next_allowed.proofs.InsideLaws.{step-next, step-among, step-turn, stop-before, end_next}
 use Rattle.b3d_judge_animation.specs.Answers.{anim_of, moved, moved_from, Motions}
-use Rattle.b3d_judge_animation.specs.declared.Motion.{Motion}
-use Rattle.b3d_judge_animation.specs.declared.Motion.TheVariants as motion
 use Rattle.b3d_judge_tally.proofs.AnswerLaws.{Gave, judged_bad, judged_good}
 use Rattle.b3d_chunk_next_allowed.proofs.RestLaws.{rest-chunk, rest-done, rest-step, rest-stop, rest_end}
 use Rattle.b3d_judge_bodies.proofs.ChunkLoopLaws.{Going, going_start, going-small, going-body, going-to, going-place, going-one, going}
@@ -56,7 +55,7 @@ abbrev whole : List ℕ → ℕ → Cursor → Result (Bool × Tally × Chunks)
 whole s at from = moved (read_animation no_anim (rest_in s NODE at (reached_at 2 false) from))
 
 -- the answers that are right
-abbrev Right : List ℕ → ℕ → Cursor → Motion → Type 0
+abbrev Right : List ℕ → ℕ → Cursor → std.Result (Bool × Tally × Cursor) Refusal → Type 0
 Right s at from r = Motions (read_animation no_anim (rest_in s NODE at (reached_at 2 false) from)) (rest_in s NODE at (reached_at 3 false)) from r
 
 -- at c, after q, which is at the turn of KEYS and ANIM and is spent where an ANIM was seen, with the tally m of keys
@@ -131,93 +130,93 @@ module _ (s : List ℕ) (at : ℕ) (from : Cursor) where
     pub moving_small : Within m most_bytes
     moving_small = within-left m (anim_tally (anim_of q.spent)) most_bytes (going-small s at from c _ v.going)
 
-    refuse : (e i : ℕ) → moved_from m (read_animation (anim_of q.spent) (rest_in s NODE at (reached_of q) c)) ≡ reject e i → i ≤ c.end → Right s at from (motion.Reject e i)
-    refuse e i h le = record { is = sym (v.so_far ∙ h); within = omega (arith, v.going.same) }
+    refuse : (e : Refusal) → moved_from m (read_animation (anim_of q.spent) (rest_in s NODE at (reached_of q) c)) ≡ reject e.number e.place → e.place ≤ c.end → Right s at from (Err e)
+    refuse e h le = record { is = sym (v.so_far ∙ h); within = omega (arith, v.going.same) }
 
     finish : (t : Tally) → t ≡ plus m (anim_tally (anim_of q.spent))
         → read_animation (anim_of q.spent) (rest_in s NODE at (reached_of q) c) ≡ accept (record { value = record { keys = []; anim = anim_of q.spent }; rest = rest_in s NODE at (reached_at 3 false) c })
-        → Right s at from (motion.Accept q.spent t c)
+        → Right s at from (Ok (q.spent, t, c))
     unfolding animation_tally lists_tally
     finish t e h = record {
       is = sym (v.so_far ∙ rw (h, none-plus, e, seen_anim q.spent));
       within = record { from_at = v.going.from_at; room = v.going.among.room; same = v.going.same; within = rw e v.going.within };
     }
 
-    module _ (r : Enclosed) (x : EnclosedIs s NODE at q c r) where
-      pub moving_stop : (e p : ℕ) → r ≡ enclosed.Reject e p → Right s at from (motion.Reject e p)
+    module _ (r : std.Result (std.Option Enclosed) Refusal) (x : EnclosedIs s NODE at q c r) where
+      pub moving_stop : (e : Refusal) → r ≡ Err e → Right s at from (Err e)
       unfolding read_animation
-      moving_stop e p w = refuse e p (rw (rest-stop s NODE at q c r x e p w)) (stop-before s NODE at q c r x e p w)
+      moving_stop e w = refuse e (rw (rest-stop s NODE at q c r x e w)) (stop-before s NODE at q c r x e w)
 
-      pub moving_end : r ≡ enclosed.End → (t : Tally) → t ≡ plus m (anim_tally (anim_of q.spent)) → Right s at from (motion.Accept q.spent t c)
+      pub moving_end : r ≡ (Ok None) → (t : Tally) → t ≡ plus m (anim_tally (anim_of q.spent)) → Right s at from (Ok (q.spent, t, c))
       unfolding read_animation order if
       moving_end w t e = finish t e (rw (rest_end s NODE at q c r x w, rest-done s c next.Done (end_next s NODE at q c r x w) NODE at (reached_at 3 false) refl))
 
-      module _ (t : Tag) (p : ℕ) (b n : Cursor) (z : State) (w : r ≡ enclosed.Chunk t p b n z) where
-        among : Chunked c p b n
-        among = step-among s NODE at q c r x t p b n z w
+      module _ (e₁ : Enclosed) (w : r ≡ Ok (Some e₁)) where
+        among : Chunked c e₁.at e₁.body e₁.next
+        among = step-among s NODE at q c r x e₁ w
 
         -- how far the moves come with this chunk
-        goes : next_turn (nesting NODE) (nesting NODE) (reached_at 2 q.spent) t ≡ some (reached_of z)
-        goes = subst (λ (i : ℕ). next_turn (nesting NODE) (nesting NODE) (reached_at i q.spent) t ≡ some (reached_of z)) v.turn (step-turn s NODE at q c r x t p b n z w)
+        goes : next_turn (nesting NODE) (nesting NODE) (reached_at 2 q.spent) e₁.tag ≡ some (reached_of e₁.reached)
+        goes = subst (λ (i : ℕ). next_turn (nesting NODE) (nesting NODE) (reached_at i q.spent) e₁.tag ≡ some (reached_of e₁.reached)) v.turn (step-turn s NODE at q c r x e₁ w)
 
-        to : (u : Tally) → Within u (n.at - from.at) → Going s at from n u
-        to = going-to s at from c _ v.going NODE q r x t p b n z w
+        to : (u : Tally) → Within u (e₁.next.at - from.at) → Going s at from e₁.next u
+        to = going-to s at from c _ v.going NODE q r x e₁ w
 
-        pub moving_room : b.at ≤ b.end
+        pub moving_room : e₁.body.at ≤ e₁.body.end
         moving_room = among.room
 
-        pub moving_node : (t ≡ KEYS → ⊥) → (t ≡ ANIM → ⊥) → (u : Tally) → u ≡ plus m (anim_tally (anim_of q.spent)) → Right s at from (motion.Accept q.spent u c)
+        pub moving_node : (e₁.tag ≡ KEYS → ⊥) → (e₁.tag ≡ ANIM → ⊥) → (u : Tally) → u ≡ plus m (anim_tally (anim_of q.spent)) → Right s at from (Ok (q.spent, u, c))
         unfolding read_animation next_turn onward if
         moving_node nk na u e =
-            let (k, y) = node-turn q.spent (reached_of z) t goes (no_move t nk na) in
-            finish u e (rw (rest-step s NODE at q c r x t p b n z w, rest-chunk s c (next.Chunk t p b n) (step-next s NODE at q c r x t p b n z w) NODE at (reached_at 3 false) t p b n refl, k, y))
+            let (k, y) = node-turn q.spent (reached_of e₁.reached) e₁.tag goes (no_move e₁.tag nk na) in
+            finish u e (rw (rest-step s NODE at q c r x e₁ w, rest-chunk s c (next.Chunk e₁.tag e₁.at e₁.body e₁.next) (step-next s NODE at q c r x e₁ w) NODE at (reached_at 3 false) e₁.tag e₁.at e₁.body e₁.next refl, k, y))
 
         -- KEYS
 
-        module _ (k : t ≡ KEYS) (j : Judged) (h : Judges list_tally (read_keys p (left b s)) p b.end j) where
+        module _ (k : e₁.tag ≡ KEYS) (j : std.Result Tally Refusal) (h : Judges list_tally (read_keys e₁.at (left e₁.body s)) e₁.at e₁.body.end j) where
           keys-read : read_animation (anim_of q.spent) (rest_in s NODE at (reached_of q) c)
-              ≡ (read_keys p (left b s) >>= λ l. read_animation (anim_of q.spent) (rest_in s NODE at (reached_of z) n) >>= λ y. accept (with_keys l y))
+              ≡ (read_keys e₁.at (left e₁.body s) >>= λ l. read_animation (anim_of q.spent) (rest_in s NODE at (reached_of e₁.reached) e₁.next) >>= λ y. accept (with_keys l y))
           unfolding read_animation if
-          keys-read = rw (rest-step s NODE at q c r x t p b n z w, k)
+          keys-read = rw (rest-step s NODE at q c r x e₁ w, k)
 
-          pub moving_keys-bad : (e i : ℕ) → j ≡ judge.Reject e i → Right s at from (motion.Reject e i)
-          moving_keys-bad e i y =
-              refuse e i (rw (keys-read, judged_bad list_tally (read_keys p (left b s)) e i (sym h.is ∙ y))) (going-place s at from c _ v.going NODE q r x t p b n z w list_tally _ j h e i y)
+          pub moving_keys-bad : (e : Refusal) → j ≡ Err e → Right s at from (Err e)
+          moving_keys-bad e y =
+              refuse e (rw (keys-read, judged_bad list_tally (read_keys e₁.at (left e₁.body s)) e (sym h.is ∙ y))) (going-place s at from c _ v.going NODE q r x e₁ w list_tally _ j h e y)
 
-          pub moving_keys : (u a : Tally) → j ≡ judge.Accept u → a ≡ plus m u → Moving s at from n z a
+          pub moving_keys : (u a : Tally) → j ≡ Ok u → a ≡ plus m u → Moving s at from e₁.next e₁.reached a
           moving_keys u a y e =
               let f = among in
-              let g = judged_good list_tally (read_keys p (left b s)) u (sym h.is ∙ y) in
-              let i = going-one s at from c _ v.going NODE q r x t p b n z w list_tally _ j h u y in
-              let l = keys-turn q.spent z (subst (λ (t : Tag). next_turn (nesting NODE) (nesting NODE) (reached_at 2 q.spent) t ≡ some (reached_of z)) k goes) in
+              let g = judged_good list_tally (read_keys e₁.at (left e₁.body s)) u (sym h.is ∙ y) in
+              let i = going-one s at from c _ v.going NODE q r x e₁ w list_tally _ j h u y in
+              let l = keys-turn q.spent e₁.reached (subst (λ (k : Tag). next_turn (nesting NODE) (nesting NODE) (reached_at 2 q.spent) k ≡ some (reached_of e₁.reached)) k goes) in
               record {
                 turn = l.0;
-                going = to _ (rw (e, l.1) (swapped m u (anim_tally (anim_of q.spent)) (c.at - from.at) (b.end - p) (n.at - from.at) v.going.within i (omega (arith, v.going.from_at))));
+                going = to _ (rw (e, l.1) (swapped m u (anim_tally (anim_of q.spent)) (c.at - from.at) (e₁.body.end - e₁.at) (e₁.next.at - from.at) v.going.within i (omega (arith, v.going.from_at))));
                 so_far =
                     v.so_far ∙ ap (moved_from m) keys-read
-                    ∙ keys_on (read_keys p (left b s)) u g m a e (read_animation (anim_of q.spent) (rest_in s NODE at (reached_of z) n))
-                    ∙ ap (λ (d : Bool). moved_from a (read_animation (anim_of d) (rest_in s NODE at (reached_of z) n))) (sym l.1);
+                    ∙ keys_on (read_keys e₁.at (left e₁.body s)) u g m a e (read_animation (anim_of q.spent) (rest_in s NODE at (reached_of e₁.reached) e₁.next))
+                    ∙ ap (λ (d : Bool). moved_from a (read_animation (anim_of d) (rest_in s NODE at (reached_of e₁.reached) e₁.next))) (sym l.1);
               }
 
         -- ANIM
 
-        module _ (k : t ≡ ANIM) where
-          once : (q.spent ≡ false) × (z.turn ≡ 2) × (z.spent ≡ true)
-          once = anim-turn q.spent z (subst (λ (t : Tag). next_turn (nesting NODE) (nesting NODE) (reached_at 2 q.spent) t ≡ some (reached_of z)) k goes)
+        module _ (k : e₁.tag ≡ ANIM) where
+          once : (q.spent ≡ false) × (e₁.reached.turn ≡ 2) × (e₁.reached.spent ≡ true)
+          once = anim-turn q.spent e₁.reached (subst (λ (k : Tag). next_turn (nesting NODE) (nesting NODE) (reached_at 2 q.spent) k ≡ some (reached_of e₁.reached)) k goes)
 
-          anim-read : read_animation (anim_of q.spent) (rest_in s NODE at (reached_of q) c) ≡ (read_anim p (left b s) >>= λ ws. read_animation (anim ws) (rest_in s NODE at (reached_of z) n))
+          anim-read : read_animation (anim_of q.spent) (rest_in s NODE at (reached_of q) c) ≡ (read_anim e₁.at (left e₁.body s) >>= λ ws. read_animation (anim ws) (rest_in s NODE at (reached_of e₁.reached) e₁.next))
           unfolding read_animation if
-          anim-read = rw (rest-step s NODE at q c r x t p b n z w, k)
+          anim-read = rw (rest-step s NODE at q c r x e₁ w, k)
 
-          size : length (left b s) ≡ b.end - b.at
-          size = let f = going-body s at from c _ v.going NODE q r x t p b n z w in left-length s b (record { before = f.room; within = f.within })
+          size : length (left e₁.body s) ≡ e₁.body.end - e₁.body.at
+          size = let f = going-body s at from c _ v.going NODE q r x e₁ w in left-length s e₁.body (record { before = f.room; within = f.within })
 
-          pub moving_anim-short : (b.end - b.at ≡ 12 → ⊥) → Right s at from (motion.Reject 5 b.at)
+          pub moving_anim-short : (e₁.body.end - e₁.body.at ≡ 12 → ⊥) → Right s at from (Err (refusal_at 5 e₁.body.at))
           moving_anim-short d =
               let f = among in
-              refuse 5 b.at (rw (anim-read, anim-other p (left b s) (λ e. d (sym size ∙ e)), f.body)) (omega arith)
+              refuse (refusal_at 5 e₁.body.at) (rw (anim-read, anim-other e₁.at (left e₁.body s) (λ e. d (sym size ∙ e)), f.body)) (omega arith)
 
-          pub moving_anim : b.end - b.at ≡ 12 → Moving s at from n z m
+          pub moving_anim : e₁.body.end - e₁.body.at ≡ 12 → Moving s at from e₁.next e₁.reached m
           unfolding anim_tally
           moving_anim d =
               let f = among in
@@ -225,11 +224,11 @@ module _ (s : List ℕ) (at : ℕ) (from : Cursor) where
               record {
                 turn = turn;
                 going = to _
-                    (subst (λ (d : Bool). Within (plus m (anim_tally (anim_of d))) (n.at - from.at)) (sym spent)
-                    (twenty m (c.at - from.at) (n.at - from.at) (subst (λ (d : Bool). Within (plus m (anim_tally (anim_of d))) (c.at - from.at)) first v.going.within) (omega (arith, v.going.from_at, f.body, f.from))));
+                    (subst (λ (d : Bool). Within (plus m (anim_tally (anim_of d))) (e₁.next.at - from.at)) (sym spent)
+                    (twenty m (c.at - from.at) (e₁.next.at - from.at) (subst (λ (d : Bool). Within (plus m (anim_tally (anim_of d))) (c.at - from.at)) first v.going.within) (omega (arith, v.going.from_at, f.body, f.from))));
                 so_far =
-                    v.so_far ∙ rw (anim-read, anim-whole p (left b s) (size ∙ d)) (anim-same (rest_in s NODE at (reached_of z) n) m (words_of 3 (left b s)) [])
-                    ∙ ap (λ (d : Bool). moved_from m (read_animation (anim_of d) (rest_in s NODE at (reached_of z) n))) (sym spent);
+                    v.so_far ∙ rw (anim-read, anim-whole e₁.at (left e₁.body s) (size ∙ d)) (anim-same (rest_in s NODE at (reached_of e₁.reached) e₁.next) m (words_of 3 (left e₁.body s)) [])
+                    ∙ ap (λ (d : Bool). moved_from m (read_animation (anim_of d) (rest_in s NODE at (reached_of e₁.reached) e₁.next))) (sym spent);
               }
 
 pub ruleset moving_laws = (moving_start, moving_small, moving_stop, moving_end, moving_room, moving_node, moving_keys-bad, moving_keys, moving_anim-short, moving_anim, going)

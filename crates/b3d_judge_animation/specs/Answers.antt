@@ -1,5 +1,7 @@
 -- What is answered of KEYS and ANIM: whether there is an ANIM, beside their tally.
-use Rattle.std.specs.Prelude.{◌≤◌, ◌≡◌, Bool, true, false, []}
+use Rattle.std.specs.Prelude as std
+use Rattle.layout.specs.declared.Refusal.{Refusal}
+use Rattle.std.specs.Prelude.{◌≤◌, ◌≡◌, Bool, true, false, [], Ok, Err}
 use Rattle.wire.specs.declared.Cursor.{Cursor}
 use Rattle.layout.specs.Result.{Result, accept, reject}
 use Rattle.b3d_spec.specs.Tags.{Chunks, Found}
@@ -8,8 +10,6 @@ use Rattle.b3d_spec.specs.Parse.{Animation}
 use Rattle.b3d_spec.specs.Rules.{animated}
 use Rattle.b3d_judge_tally.specs.Tally.{plus, animation_tally}
 use Rattle.b3d_judge_tally.specs.declared.Tally.{Tally}
-use Rattle.b3d_judge_animation.specs.declared.Motion.{Motion}
-use Rattle.b3d_judge_animation.specs.declared.Motion.TheVariants as motion
 use Rattle.b3d_judge_tally.specs.Answers.{beside, Onward}
 
 -- an ANIM that was seen (true) or not; its values are not kept
@@ -26,17 +26,17 @@ abbrev pub moved_from : Tally → Result (Found Animation) → Result (Bool × T
 moved_from m = beside (λ x. animated x.anim) (λ x. plus m (animation_tally x))
 
 -- what an answer says: whether there is an ANIM, the tally, and the chunks from the cursor on by `rest`; or the refusal
-abbrev pub moved_by : (Cursor → Chunks) → Motion → Result (Bool × Tally × Chunks)
-moved_by rest (motion.Accept a t c) = accept (a, t, rest c)
-moved_by rest (motion.Reject n p) = reject n p
+abbrev pub moved_by : (Cursor → Chunks) → std.Result (Bool × Tally × Cursor) Refusal → Result (Bool × Tally × Chunks)
+moved_by rest (Ok (a, t, c)) = accept (a, t, rest c)
+moved_by rest (Err e) = reject e.number e.place
 
 -- bounds of an answer from the cursor `from` on: the cursor further on, with a tally of no more bytes than lie between; a refusal's place not past the end
-abbrev pub MovedIn : Cursor → Motion → Type 0
-MovedIn from (motion.Accept a t c) = Onward from c t
-MovedIn from (motion.Reject n p) = p ≤ from.end
+abbrev pub MovedIn : Cursor → std.Result (Bool × Tally × Cursor) Refusal → Type 0
+MovedIn from (Ok (a, t, c)) = Onward from c t
+MovedIn from (Err e) = e.place ≤ from.end
 
 -- r is the answer on the KEYS and ANIM o from the cursor `from` on, `rest` giving the chunks from a cursor on
-pub record Motions (o : Result (Found Animation)) (rest : Cursor → Chunks) (from : Cursor) (r : Motion) : Type 0 where
+pub record Motions (o : Result (Found Animation)) (rest : Cursor → Chunks) (from : Cursor) (r : std.Result (Bool × Tally × Cursor) Refusal) : Type 0 where
   -- it says what was read, or the refusal
   pub is : moved_by rest r ≡ moved o
   -- it keeps its bounds

@@ -12,18 +12,11 @@ ghost use Rattle.b3d_spec_chunk_places.specs.Places.{rest_in, Among};
 ghost use Rattle.b3d_judge_animation.specs.Answers.{anim_of, Motions};
 
 use b3d_chunk_next_allowed::Enclosed;
-use b3d_judge_tally::{Judged, Tally};
+use b3d_judge_tally::Tally;
 use b3d_rule_nesting_order::Reached;
 use b3d_spec::Tag;
-use layout::refusals;
+use layout::{Refusal, refusals};
 use wire::Cursor;
-
-// Whether a node has an ANIM, the tally of its KEYS and ANIM, and the cursor after them; or a refusal and its place.
-#[derive(Clone, Copy)]
-pub enum Motion {
-    Accept(bool, Tally, Cursor),
-    Reject(u32, usize),
-}
 
 // How far the chunks inside a NODE have come after its MESH or BONE, or without one.
 const KIND_READ: Reached = Reached {
@@ -44,7 +37,7 @@ fn with_anim(m: Tally, seen: bool) -> Tally
 
 // Judges KEYS and ANIM, in any mix, from the cursor `from` up to the first NODE or the end of the NODE whose header is at `at`. Returns whether there is an
 // ANIM, their tally and the cursor after them, or the first refusal: 5 at the body of an ANIM whose length is not 12.
-pub fn judge_animation(s: &[u8], at: usize, from: Cursor) -> Motion
+pub fn judge_animation(s: &[u8], at: usize, from: Cursor) -> Result<(bool, Tally, Cursor), Refusal>
     requires { Among at from (length s.now) }
     ensures { Motions (read_animation no_anim (rest_in s.now NODE at (reached_at 2 false) from))
         (rest_in s.now NODE at (reached_at 3 false)) from result }
@@ -54,41 +47,38 @@ pub fn judge_animation(s: &[u8], at: usize, from: Cursor) -> Motion
     let mut m = b3d_judge_tally::none();
     loop {
         let found = b3d_chunk_cursor::next_chunk(s, c);
-        match b3d_chunk_next_allowed::next_inside(s, c, found, Tag::NODE, at, q) {
-            Enclosed::End => {
-                return Motion::Accept(q.spent, with_anim(m, q.spent), c);
-            }
-            Enclosed::Reject(e, p) => {
-                return Motion::Reject(e, p);
-            }
-            Enclosed::Chunk {
+        let Some(
+            Enclosed {
                 tag,
                 at: p,
                 body,
                 next,
                 reached,
-            } => match tag {
-                Tag::KEYS => match b3d_judge_bodies::judge_keys(s, p, body) {
-                    Judged::Reject(e, i) => {
-                        return Motion::Reject(e, i);
-                    }
-                    Judged::Accept(t) => {
-                        m = b3d_judge_tally::plus(m, t);
-                        q = reached;
-                        c = next;
-                    }
-                },
-                Tag::ANIM => {
-                    if body.end - body.at != 12 {
-                        return Motion::Reject(refusals::CUT_ITEM, body.at);
-                    }
-                    q = reached;
-                    c = next;
-                }
-                _ => {
-                    return Motion::Accept(q.spent, with_anim(m, q.spent), c);
-                }
             },
+        ) = b3d_chunk_next_allowed::next_inside(s, c, found, Tag::NODE, at, q)?
+        else {
+            return Ok((q.spent, with_anim(m, q.spent), c));
+        };
+        match tag {
+            Tag::KEYS => {
+                let t = b3d_judge_bodies::judge_keys(s, p, body)?;
+                m = b3d_judge_tally::plus(m, t);
+                q = reached;
+                c = next;
+            }
+            Tag::ANIM => {
+                if body.end - body.at != 12 {
+                    return Err(Refusal {
+                        number: refusals::CUT_ITEM,
+                        place: body.at,
+                    });
+                }
+                q = reached;
+                c = next;
+            }
+            _ => {
+                return Ok((q.spent, with_anim(m, q.spent), c));
+            }
         }
     }
 }

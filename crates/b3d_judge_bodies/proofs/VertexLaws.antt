@@ -1,4 +1,8 @@
 -- VRTS: what each step of `judge_vertices` says of the vertices that the body holds.
+use Rattle.layout.specs.Refused.{refusal_at}
+use Rattle.std.specs.Prelude.{Ok, Err}
+use Rattle.std.specs.Prelude as std
+use Rattle.layout.specs.declared.Refusal.{Refusal}
 use Prim.Native.Nat.{ℕ, zero, suc, ◌≤◌, ◌<◌, ◌+◌, ◌-◌, ◌*◌, ◌/◌, ◌%◌}
 use native.Mathlib.Omega.{arith}
 use mathlib.Core.Path.{refl, sym, ap, ap₂, ◌≡◌, ◌∙◌}
@@ -18,13 +22,10 @@ use Rattle.b3d_spec.specs.declared.Mode.TheVariants.{Strict, Lenient}
 use Rattle.b3d_spec.specs.Parse.{Vertices, read_vertices}
 use Rattle.b3d_spec.specs.Rules.{vertices_head, vertex_row, vertex_words}
 use Rattle.b3d_judge_items.specs.Items.{part_row, colour_items, counted, divided_at, CountedIn}
-use Rattle.b3d_judge_items.specs.declared.Counted.{Counted}
-use Rattle.b3d_judge_items.specs.declared.Counted.TheVariants as counts
 use Rattle.b3d_judge_items.proofs.DividedLaws.{divided_is, counted-room, counted-before, counted_got, counted-bad}
 use Rattle.b3d_spec_chunk_places.specs.Places.{Body}
 use Rattle.b3d_judge_bodies.specs.Answers.{Shapes}
 use Rattle.b3d_judge_bodies.specs.Colours.{before_colour, colours_of}
-use Rattle.b3d_judge_bodies.specs.declared.VerticesSummary.TheVariants as shape
 use Rattle.b3d_spec_chunk_places.proofs.HeadLaws.{body-inside}
 
 -- ---- a vertex's rules: words that are not looked at, the colours that the mode looks at, and others
@@ -57,7 +58,7 @@ unfolding colours_of
 colours_lenient mode f r m e = e ∙ ap (λ (x : Mode). colours_of x f) (sym m)
 
 -- no colour: the items of so many words, by one division
-pub plain-items : (s : List ℕ) (c : Cursor) (words before n : ℕ) → Inside c (length s) → 0 < words → before + n ≤ words → n ≡ 0 → (x : Counted) → x ≡ divided_at c words
+pub plain-items : (s : List ℕ) (c : Cursor) (words before n : ℕ) → Inside c (length s) → 0 < words → before + n ≤ words → n ≡ 0 → (x : std.Result ℕ Refusal) → x ≡ divided_at c words
     → x ≡ counted (colour_items before n (words - (before + n)) c.at (left c s))
 plain-items s c words before n i pos le z x e =
     let a : words ≡ before + (words - (before + 0)) = omega arith in
@@ -66,13 +67,13 @@ plain-items s c words before n i pos le z x e =
     ∙ ap (λ (k : ℕ). counted (colour_items before k (words - (before + k)) c.at (left c s))) (sym z)
 
 -- the colours of the items
-pub coloured-items : (mode : Mode) (f : ℕ) (s : List ℕ) (c : Cursor) (words before n : ℕ) → before ≡ before_colour f → n ≡ colours_of mode f → (x : Counted)
+pub coloured-items : (mode : Mode) (f : ℕ) (s : List ℕ) (c : Cursor) (words before n : ℕ) → before ≡ before_colour f → n ≡ colours_of mode f → (x : std.Result ℕ Refusal)
     → x ≡ counted (colour_items before n (words - (before + n)) c.at (left c s))
     → x ≡ counted (colour_items (before_colour f) (colours_of mode f) (words - (before_colour f + colours_of mode f)) c.at (left c s))
 coloured-items mode f s c words before n a b x e = e ∙ ap₂ (λ (i j : ℕ). counted (colour_items i j (words - (i + j)) c.at (left c s))) a b
 
 pub plain-vertices : (mode : Mode) (f : ℕ) (s : List ℕ) (c : Cursor) (words n : ℕ) → Inside c (length s) → 0 < words → before_colour f + colours_of mode f ≤ words → n ≡ colours_of mode f → n ≡ 0
-    → (x : Counted) → x ≡ divided_at c words → x ≡ counted (colour_items (before_colour f) (colours_of mode f) (words - (before_colour f + colours_of mode f)) c.at (left c s))
+    → (x : std.Result ℕ Refusal) → x ≡ divided_at c words → x ≡ counted (colour_items (before_colour f) (colours_of mode f) (words - (before_colour f + colours_of mode f)) c.at (left c s))
 plain-vertices mode f s c words n i pos le a z x e = plain-items s c words (before_colour f) (colours_of mode f) i pos le (sym a ∙ z) x e
 
 -- the cursor after the fixed data of a body
@@ -83,17 +84,17 @@ after b = span (b.at + 12) b.end
 abbrev vertices_at : Mode → List ℕ → Cursor → ℕ → ℕ → ℕ → Result (List (List ℕ))
 vertices_at mode s c flags sets size = items (row (vertex_row mode flags sets size)) c.at (left c s)
 
-refuses : (o : Result Vertices) (b : Cursor) (n p : ℕ) → o ≡ reject n p → p ≤ b.end → Shapes o b (shape.Reject n p)
-refuses o b n p e h = record { is = rw e; within = h }
+refuses : (o : Result Vertices) (b : Cursor) (n : Refusal) → o ≡ reject n.number n.place → n.place ≤ b.end → Shapes o b (Err n)
+refuses o b n e h = record { is = rw e; within = h }
 
 module _ (mode : Mode) (s : List ℕ) (at : ℕ) (b : Cursor) (body : Body at b (length s)) where
   inside : Inside b (length s)
   inside = body-inside s at b body
 
-  pub shape-cut : b.end - b.at < 12 → Shapes (read_vertices mode at (left b s)) b (shape.Reject 5 b.at)
+  pub shape-cut : b.end - b.at < 12 → Shapes (read_vertices mode at (left b s)) b (Err (refusal_at 5 b.at))
   unfolding read_vertices
   shape-cut h =
-      refuses _ b 5 b.at (rw (← body.head, row-short vertices_head b.at (left b s) (omega (arith, left-length s b inside)))) body.room
+      refuses _ b (refusal_at 5 b.at) (rw (← body.head, row-short vertices_head b.at (left b s) (omega (arith, left-length s b inside)))) body.room
 
   module _
       (room : 12 ≤ b.end - b.at) (flags sets size : ℕ)
@@ -107,25 +108,25 @@ module _ (mode : Mode) (s : List ℕ) (at : ℕ) (b : Cursor) (body : Body at b 
         rw (← body.head, left-drop s b 12 (after b) refl refl, ← three)
         (row-enough vertices_head b.at (left b s) (omega (arith, left-length s b inside)))
 
-    pub shape-flags : 3 < flags → Shapes (read_vertices mode at (left b s)) b (shape.Reject 6 b.at)
+    pub shape-flags : 3 < flags → Shapes (read_vertices mode at (left b s)) b (Err (refusal_at 6 b.at))
     unfolding read_vertices judged check
-    shape-flags o = refuses _ b 6 b.at (rw (head, lt-leb _ _ o)) body.room
+    shape-flags o = refuses _ b (refusal_at 6 b.at) (rw (head, lt-leb _ _ o)) body.room
 
     module _ (f3 : flags ≤ 3) where
-      pub shape-sets : 8 < sets → Shapes (read_vertices mode at (left b s)) b (shape.Reject 6 (b.at + 4))
+      pub shape-sets : 8 < sets → Shapes (read_vertices mode at (left b s)) b (Err (refusal_at 6 (b.at + 4)))
       unfolding read_vertices judged check
-      shape-sets o = refuses _ b 6 (b.at + 4) (rw (head, le-leb _ _ f3, lt-leb _ _ o)) (omega arith)
+      shape-sets o = refuses _ b (refusal_at 6 (b.at + 4)) (rw (head, le-leb _ _ f3, lt-leb _ _ o)) (omega arith)
 
       module _ (s8 : sets ≤ 8) where
-        pub shape_size : 4 < size → Shapes (read_vertices mode at (left b s)) b (shape.Reject 6 (b.at + 8))
+        pub shape_size : 4 < size → Shapes (read_vertices mode at (left b s)) b (Err (refusal_at 6 (b.at + 8)))
         unfolding read_vertices judged check
         shape_size o =
             let p : b.at + 4 + 4 ≡ b.at + 8 = omega arith in
-            refuses _ b 6 (b.at + 8) (rw (head, le-leb _ _ f3, le-leb _ _ s8, lt-leb _ _ o, p)) (omega arith)
+            refuses _ b (refusal_at 6 (b.at + 8)) (rw (head, le-leb _ _ f3, le-leb _ _ s8, lt-leb _ _ o, p)) (omega arith)
 
         module _
             (s4 : size ≤ 4) (words : ℕ) (v : words ≡ vertex_words flags sets size) (low : 3 ≤ words) (high : words ≤ 42)
-            (x : Counted)
+            (x : std.Result ℕ Refusal)
             (y : x ≡ counted (colour_items (before_colour flags) (colours_of mode flags) (words - (before_colour flags + colours_of mode flags)) (after b).at (left (after b) s)))
             (z : CountedIn (after b) words x) where
           whole : row vertices_head (at + 8) (left b s) ≡ accept (record { value = flags ∷ sets ∷ size ∷ []; place = b.at + 12; left = left (after b) s })
@@ -137,13 +138,13 @@ module _ (mode : Mode) (s : List ℕ) (at : ℕ) (b : Cursor) (body : Body at b 
               y ∙ ap (λ (rs : List Rule). counted (items (row rs) (b.at + 12) (left (after b) s)))
               (ap (λ (n : ℕ). part_row unit (before_colour flags) (colours_of mode flags) (n - (before_colour flags + colours_of mode flags))) v ∙ sym (colours_are mode flags sets size))
 
-          pub shape-bad : (n p : ℕ) → x ≡ counts.Reject n p → Shapes (read_vertices mode at (left b s)) b (shape.Reject n p)
+          pub shape-bad : (n : Refusal) → x ≡ Err n → Shapes (read_vertices mode at (left b s)) b (Err n)
           unfolding read_vertices
-          shape-bad n p q =
-              let g = counted-bad (vertices_at mode s (after b) flags sets size) n p (sym found ∙ q) in
-              refuses _ b n p (rw (whole, g)) (counted-before (after b) words x z n p q)
+          shape-bad n q =
+              let g = counted-bad (vertices_at mode s (after b) flags sets size) n (sym found ∙ q) in
+              refuses _ b n (rw (whole, g)) (counted-before (after b) words x z n q)
 
-          pub shape-all : (k : ℕ) → x ≡ counts.Accept k → Shapes (read_vertices mode at (left b s)) b (shape.Accept k words)
+          pub shape-all : (k : ℕ) → x ≡ Ok k → Shapes (read_vertices mode at (left b s)) b (Ok (k, words))
           unfolding read_vertices
           shape-all k q =
               let g = counted_got (vertices_at mode s (after b) flags sets size) k (sym found ∙ q) in

@@ -1,4 +1,9 @@
 -- Items that are a text and a row, counted one by one: what each turn of a loop over them makes of those that are left.
+use Rattle.layout.specs.Refused.{refusal_at}
+use Rattle.std.specs.Prelude.{Ok, Err, Some, None}
+use Rattle.std.specs.Prelude as std
+use Rattle.layout.specs.declared.Refusal.{Refusal}
+use Rattle.b3d_chunk_cursor.specs.declared.Named.{Named}
 use Prim.Native.Nat.{ℕ, ◌+◌, ◌*◌, ◌<◌, ◌≤◌}
 use native.Mathlib.Omega.{arith}
 use native.Mathlib.Nat.{add-mul, zero-mul}
@@ -14,19 +19,15 @@ use Rattle.layout.specs.Rules.{Rule}
 use Rattle.layout.proofs.ResultLaws.{by_got, got_inj}
 use Rattle.layout.proofs.StepLaws.{items-none, items-step, Shrinks, named_shrinks}
 use Rattle.b3d_chunk_cursor.specs.Chunks.{named_at, NamedIn}
-use Rattle.b3d_chunk_cursor.specs.declared.Named.{Named}
-use Rattle.b3d_chunk_cursor.specs.declared.Named.TheVariants as named
-use Rattle.b3d_judge_items.specs.declared.Counted.{Counted}
-use Rattle.b3d_judge_items.specs.declared.Counted.TheVariants as counts
 use Rattle.b3d_chunk_cursor.proofs.NamedLaws.{named-cut, named-is, named-among}
 
 -- how many items there are after so many others, or the refusal
-abbrev pub counted_from : {A : Type 0} → ℕ → Result (List A) → Counted
-counted_from k (accept l) = counts.Accept (k + length l)
-counted_from k (reject n p) = counts.Reject n p
+abbrev pub counted_from : {A : Type 0} → ℕ → Result (List A) → std.Result ℕ Refusal
+counted_from k (accept l) = Ok (k + length l)
+counted_from k (reject n p) = Err (refusal_at n p)
 
 from_one : {A : Type 0} (k : ℕ) (v : A) (o : Result (List A)) → counted_from k (o >>= λ l. accept (v ∷ l)) ≡ counted_from (k + 1) o
-from_one k v (accept l) = let e : k + length (v ∷ l) ≡ k + 1 + length l = omega arith in ap counts.Accept e
+from_one k v (accept l) = let e : k + length (v ∷ l) ≡ k + 1 + length l = omega arith in ap Ok e
 from_one k v (reject n p) = refl
 
 -- so many items, each of at least so many bytes, have been passed from `from` up to c
@@ -51,32 +52,32 @@ module _ {A : Type 0} (make : Name × List ℕ → A) (rs : List Rule) where
       omega arith)
 
   module _ {size : ℕ} {s : List ℕ} {from c : Cursor} {count : ℕ} (k : Counting read_by size s from c count) where
-    pub count_done : c.end ≤ c.at → counted_from 0 (items read_by from.at (left from s)) ≡ counts.Accept count
+    pub count_done : c.end ≤ c.at → counted_from 0 (items read_by from.at (left from s)) ≡ Ok count
     count_done h =
         let e : count + 0 ≡ count = omega arith in
         k.rest ∙ rw (left-nil s c h, items-none read_by less c.at, e)
 
-    module _ (h : c.at < c.end) {words : ℕ} (l : length rs ≡ words) {r : Named} (e : r ≡ named_at s c words) where
+    module _ (h : c.at < c.end) {words : ℕ} (l : length rs ≡ words) {r : (std.Option Named)} (e : r ≡ named_at s c words) where
       step : items read_by c.at (left c s) ≡ (read_by c.at (left c s) >>= λ x. items read_by x.place x.left >>= λ v. accept (x.value ∷ v))
       step = items-step read_by less c.at (left c s) (omega (arith, left-length s c k.inside))
 
-      pub count_cut : r ≡ named.Cut → counted_from 0 (items read_by from.at (left from s)) ≡ counts.Reject 5 c.at
+      pub count_cut : r ≡ None → counted_from 0 (items read_by from.at (left from s)) ≡ Err (refusal_at 5 c.at)
       count_cut q = k.rest ∙ rw (step, named-cut s c words k.inside rs l r e q)
 
-      module _ {len : ℕ} {w n : Cursor} (q : r ≡ named.Is len w n) where
-        pub count_bad : {m p : ℕ} → ((a : Step (Name × List ℕ)) → judged rs w.at (words_of words (left w s)) a ≡ reject m p)
-            → counted_from 0 (items read_by from.at (left from s)) ≡ counts.Reject m p
-        count_bad f = k.rest ∙ rw (step, named-is s c words k.inside rs l r e len w n q, f _)
+      module _ {g : Named} (q : r ≡ Some g) where
+        pub count_bad : {m : Refusal} → ((a : Step (Name × List ℕ)) → judged rs g.row.at (words_of words (left g.row s)) a ≡ reject m.number m.place)
+            → counted_from 0 (items read_by from.at (left from s)) ≡ Err m
+        count_bad f = k.rest ∙ rw (step, named-is s c words k.inside rs l r e g q, f _)
 
         pub count_one : NamedIn c words r → size ≡ 1 + 4 * words
-            → ((a : Step (Name × List ℕ)) → judged rs w.at (words_of words (left w s)) a ≡ accept a) → Counting read_by size s from n (count + 1)
+            → ((a : Step (Name × List ℕ)) → judged rs g.row.at (words_of words (left g.row s)) a ≡ accept a) → Counting read_by size s from g.next (count + 1)
         count_one b z f =
-            let a = named-among c words r b len w n q in
+            let a = named-among c words r b g q in
             let m = add-mul count 1 size in
             record {
               inside = omega arith;
               same = a.same ∙ k.same;
               few = omega arith;
               room = omega arith;
-              rest = k.rest ∙ rw (step, named-is s c words k.inside rs l r e len w n q, f _) (from_one count _ (items read_by n.at (left n s)));
+              rest = k.rest ∙ rw (step, named-is s c words k.inside rs l r e g q, f _) (from_one count _ (items read_by g.next.at (left g.next s)));
             }

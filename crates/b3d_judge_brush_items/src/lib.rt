@@ -9,9 +9,8 @@ ghost use Rattle.b3d_spec.specs.Rules.{most_slots};
 ghost use Rattle.b3d_judge_brush_items.specs.Brushes.{brush_colours, counted_brushes, BrushesIn};
 
 use b3d_chunk_cursor::Named;
-use b3d_judge_items::Counted;
 use b3d_spec::Mode;
-use layout::refusals;
+use layout::{Refusal, refusals};
 use wire::Cursor;
 
 // Returns how many of the first words of a brush are colours that the `mode` looks at: 4 or 0.
@@ -26,35 +25,46 @@ fn brush_colours(mode: Mode) -> usize
 
 // Counts the brushes that `from` has left, each with `slots` texture ids that are -1 or below `textures`. Answers 5 at a brush that is cut, 6 at a colour
 // that does not pass in the `mode`, 7 at an id that names nothing.
-pub fn brush_items(s: &[u8], from: Cursor, slots: usize, textures: usize, mode: Mode) -> Counted
+pub fn brush_items(
+    s: &[u8],
+    from: Cursor,
+    slots: usize,
+    textures: usize,
+    mode: Mode,
+) -> Result<usize, Refusal>
     requires { Inside from (length s.now) × (slots ≤ most_slots) }
     ensures { (result ≡ counted_brushes (items (read_brush mode slots textures) from.at (left from s.now))) × BrushesIn from slots result }
 {
     let mut c = from;
     let mut count: usize = 0;
     while c.at < c.end {
-        match b3d_chunk_cursor::named_row(s, c, 7 + slots) {
-            Named::Cut => {
-                return Counted::Reject(refusals::CUT_ITEM, c.at);
-            }
-            Named::Is { row, next, .. } => {
-                let colours = brush_colours(mode);
-                let passed = b3d_judge_colour_items::first_bad_colour(s, row, colours);
-                if passed < colours {
-                    return Counted::Reject(refusals::RANGE, row.at + 4 * passed);
-                }
-                let ids = Cursor {
-                    at: row.at + 28,
-                    end: row.end,
-                };
-                let good = shared_ids::first_invalid(s, ids, slots, textures, true);
-                if good < slots {
-                    return Counted::Reject(refusals::NO_SUCH_ID, ids.at + 4 * good);
-                }
-                count += 1;
-                c = next;
-            }
+        let Some(Named { row, next, .. }) = b3d_chunk_cursor::named_row(s, c, 7 + slots) else {
+            return Err(Refusal {
+                number: refusals::CUT_ITEM,
+                place: c.at,
+            });
+        };
+        let colours = brush_colours(mode);
+        let passed = b3d_judge_colour_items::first_bad_colour(s, row, colours);
+        if passed < colours {
+            return Err(Refusal {
+                number: refusals::RANGE,
+                place: row.at + 4 * passed,
+            });
         }
+        let ids = Cursor {
+            at: row.at + 28,
+            end: row.end,
+        };
+        let good = shared_ids::first_invalid(s, ids, slots, textures, true);
+        if good < slots {
+            return Err(Refusal {
+                number: refusals::NO_SUCH_ID,
+                place: ids.at + 4 * good,
+            });
+        }
+        count += 1;
+        c = next;
     }
-    Counted::Accept(count)
+    Ok(count)
 }

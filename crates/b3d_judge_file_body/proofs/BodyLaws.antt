@@ -1,4 +1,9 @@
 -- A law for each way through `judge_body`.
+use Rattle.layout.specs.Refused.{refusal_at}
+use Rattle.std.specs.Prelude.{Err, Some, None}
+use Rattle.std.specs.Prelude as std
+use Rattle.b3d_judge_file_body.specs.declared.Summary.{Summary}
+use Rattle.layout.specs.declared.Refusal.{Refusal}
 use mathlib.Core.Path.{◌≡◌, refl, ap, sym, subst, ◌∙◌}
 use Prim.Native.Nat.{ℕ, ◌≤◌, ◌<◌}
 use native.Mathlib.Omega.{arith}
@@ -7,8 +12,6 @@ use lib.ListN.{length, drop}
 use lib.Seq.{take_all}
 use Rattle.wire.specs.Cursors.{left, number_at}
 use Rattle.wire.specs.declared.Cursor.{Cursor}
-use Rattle.wire.specs.declared.Number.{Number}
-use Rattle.wire.specs.declared.Number.TheVariants as number
 use Rattle.layout.specs.Result.{Result, accept, ◌>>=◌}
 use Rattle.layout.proofs.ResultLaws.{bind_cong, bind_bind}
 use Rattle.b3d_spec.specs.declared.Mode.{Mode}
@@ -24,8 +27,6 @@ use Rattle.b3d_spec_chunk_places.specs.Places.{Body, rest_in, Among}
 use Rattle.b3d_spec_chunk_places.proofs.HeadLaws.{head_cut, head-numbered, head_over, head-within}
 use Rattle.b3d_judge_file_chunks.specs.Answers.{read_last, read_rest}
 use Rattle.b3d_judge_file_body.specs.Bodies.{read_chunks, walked, WalkedIn, Walks}
-use Rattle.b3d_judge_file_body.specs.declared.Verdict.{Verdict}
-use Rattle.b3d_judge_file_body.specs.declared.Verdict.TheVariants as verdict
 
 -- the cursor behind a file's header
 abbrev pub behind : List ℕ → Cursor
@@ -80,19 +81,19 @@ regroup mode v cs =
     bind_cong (read_one BRUS (0, []) (read_brushes mode (length t.value)) t.rest) (λ u _. last_made mode v t.value u.value u.rest)
     ∙ sym (bind_bind (read_one BRUS (0, []) (read_brushes mode (length t.value)) t.rest) (λ u. rest_of u.value (read_last mode (length u.value.1) u.rest)) (λ x. accept (scene_of v t.value x.0 x.1))))
 
-module _ (mode : Mode) (s : List ℕ) (lo : 8 ≤ length s) (hi : length s ≤ most_bytes) (r : Number) (e : r ≡ number_at s (behind s)) where
+module _ (mode : Mode) (s : List ℕ) (lo : 8 ≤ length s) (hi : length s ≤ most_bytes) (r : std.Option (ℕ × Cursor)) (e : r ≡ number_at s (behind s)) where
   body_is : Body 0 (behind s) (length s)
   body_is = record { head = refl; room = lo; within = omega arith; small = hi }
 
-  abbrev Body-right : Verdict → Type 0
+  abbrev Body-right : std.Result Summary Refusal → Type 0
   Body-right y = Walks (read_body mode 8 (drop 8 s)) (length s) y
 
-  pub body-cut : r ≡ number.Cut → Body-right (verdict.Reject 5 8)
+  pub body-cut : r ≡ None → Body-right (Err (refusal_at 5 8))
   unfolding read_body
   body-cut w = record { is = rw (← left_behind s, head_cut s 0 (behind s) body_is r e version w); within = lo }
 
-  module _ (k : ℕ) (c : Cursor) (w : r ≡ number.Is k c) where
-    pub body-version : 99 < k → Body-right (verdict.Reject 6 8)
+  module _ (k : ℕ) (c : Cursor) (w : r ≡ Some (k, c)) where
+    pub body-version : 99 < k → Body-right (Err (refusal_at 6 8))
     unfolding read_body
     body-version h = record { is = rw (← left_behind s, head_over s 0 (behind s) body_is r e k c w 99 h); within = lo }
 
@@ -102,7 +103,7 @@ module _ (mode : Mode) (s : List ℕ) (lo : 8 ≤ length s) (hi : length s ≤ m
     pub body-twelve : c.at ≡ 12
     body-twelve = let f = head-numbered s 0 (behind s) body_is r e k c w in omega arith
 
-    pub body-chunks : k ≤ 99 → (y : Verdict) → Walks (read_chunks mode k (rest_in s BB3D 0 start c)) c.end y → Body-right y
+    pub body-chunks : k ≤ 99 → (y : std.Result Summary Refusal) → Walks (read_chunks mode k (rest_in s BB3D 0 start c)) c.end y → Body-right y
     unfolding read_body rest_in inside
     body-chunks h y v =
         let f = head-numbered s 0 (behind s) body_is r e k c w in

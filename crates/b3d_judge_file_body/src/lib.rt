@@ -10,12 +10,10 @@ ghost use Rattle.b3d_spec_chunk_places.specs.Places.{rest_in, Among};
 ghost use Rattle.b3d_judge_file_body.specs.Bodies.{read_chunks, Walks};
 ghost use Rattle.layout.specs.Rows.{most_bytes};
 
-use b3d_judge_file_chunks::Phase;
-use b3d_judge_materials::BrushesSummary;
 use b3d_judge_tally::Tally;
 use b3d_spec::{HIGHEST_VERSION, Mode};
-use layout::refusals;
-use wire::{Cursor, Number};
+use layout::{Refusal, refusals};
+use wire::Cursor;
 
 // What a file says without its tables: version, n_texs, and the tally of its rows with the size of its cleared copy.
 #[derive(Clone, Copy)]
@@ -23,13 +21,6 @@ pub struct Summary {
     pub version: u32,
     pub n_texs: u32,
     pub tally: Tally,
-}
-
-// What a file says, or its refusal and the place.
-#[derive(Clone, Copy)]
-pub enum Verdict {
-    Accept(Summary),
-    Reject(u32, usize),
 }
 
 // Returns the tally of a file: BB3D's header and version, its `textures`, and the `rest`.
@@ -44,26 +35,22 @@ pub fn file_rows(textures: Tally, rest: Tally) -> Tally
 }
 
 // Judges the chunks of a file of this `version` from the cursor `from` on: TEXS, BRUS and NODE. Returns what the file says, or the first refusal.
-fn judge_chunks(s: &[u8], version: u32, from: Cursor, mode: Mode) -> Verdict
+fn judge_chunks(s: &[u8], version: u32, from: Cursor, mode: Mode) -> Result<Summary, Refusal>
     requires { Among 0 from (length s.now) × (from.at ≡ 12) }
     ensures { Walks (read_chunks mode version (rest_in s.now BB3D 0 start from)) from.end result }
 {
-    match b3d_judge_file_chunks::judge_texs_chunk(s, from) {
-        Phase::Reject(e, p) => Verdict::Reject(e, p),
-        Phase::Accept(t, c) => match b3d_judge_file_chunks::judge_rest(s, c, t.textures, mode) {
-            BrushesSummary::Reject(e, p) => Verdict::Reject(e, p),
-            BrushesSummary::Accept(slots, r) => Verdict::Accept(Summary {
-                version,
-                n_texs: slots,
-                tally: file_rows(t, r),
-            }),
-        },
-    }
+    let (t, c) = b3d_judge_file_chunks::judge_texs_chunk(s, from)?;
+    let (slots, r) = b3d_judge_file_chunks::judge_rest(s, c, t.textures, mode)?;
+    Ok(Summary {
+        version,
+        n_texs: slots,
+        tally: file_rows(t, r),
+    })
 }
 
 // Judges all that follows the header of the file `s`, in a `mode`. Returns what the file says, or the first refusal: 5 at 8 where the version is cut, 6 at 8
 // where it is over 99. The row limit is not looked at.
-pub fn judge_body(s: &[u8], mode: Mode) -> Verdict
+pub fn judge_body(s: &[u8], mode: Mode) -> Result<Summary, Refusal>
     requires { (8 ≤ length s.now) × (length s.now ≤ most_bytes) }
     ensures { Walks (read_body mode 8 (drop 8 s.now)) (length s.now) result }
 {
@@ -71,13 +58,17 @@ pub fn judge_body(s: &[u8], mode: Mode) -> Verdict
         at: 8,
         end: s.len(),
     };
-    match behind.number(s) {
-        Number::Cut => Verdict::Reject(refusals::CUT_ITEM, 8),
-        Number::Is(version, c) => {
-            if HIGHEST_VERSION < version {
-                return Verdict::Reject(refusals::RANGE, 8);
-            }
-            judge_chunks(s, version, c, mode)
-        }
+    let Some((version, c)) = behind.number(s) else {
+        return Err(Refusal {
+            number: refusals::CUT_ITEM,
+            place: 8,
+        });
+    };
+    if HIGHEST_VERSION < version {
+        return Err(Refusal {
+            number: refusals::RANGE,
+            place: 8,
+        });
     }
+    judge_chunks(s, version, c, mode)
 }

@@ -1,4 +1,8 @@
 -- What the answers say of the phases of a file: a refusal is the refusal, and a tally is that of what was read.
+use Rattle.std.specs.Prelude.{Ok, Err}
+use Rattle.std.specs.Prelude as std
+use Rattle.layout.proofs.AnswerLaws.{pair_inj}
+use Rattle.layout.specs.declared.Refusal.{Refusal}
 use mathlib.Core.Path.{◌≡◌, refl, ap, sym, subst}
 use Prim.Native.Nat.{ℕ}
 use native.Mathlib.Omega.{arith}
@@ -9,11 +13,8 @@ use Rattle.layout.proofs.ResultLaws.{got_inj}
 use Rattle.b3d_spec.specs.Tags.{Chunks, Found}
 use Rattle.b3d_spec.specs.Scene.{Brush, Forest}
 use Rattle.b3d_judge_tally.specs.Tally.{brus_tally, forest_tally, plus}
-use Rattle.b3d_judge_materials.specs.declared.BrushesSummary.TheVariants as slotted
 use Rattle.b3d_judge_tally.specs.declared.Tally.{Tally}
 use Rattle.b3d_judge_file_chunks.specs.Answers.{Phases, brushes, brushed_by, Brushes, rested, tallied, phased}
-use Rattle.b3d_judge_file_chunks.specs.declared.Phase.{Phase}
-use Rattle.b3d_judge_file_chunks.specs.declared.BrusSummary.{BrusSummary}
 
 pub tallied-bad : {A : Type 0} (f : A → Tally) (o : Result (Found A)) (e q : ℕ) → reject e q ≡ tallied f o → o ≡ reject e q
 tallied-bad f (accept x) e q h = let z : ◌≡◌ {A = ℕ} 0 1 = cc in absurd (omega arith)
@@ -30,15 +31,15 @@ tallied-good f (accept x) t rest h =
     record { value = x.value; is = λ i. accept (record { value = x.value; rest = (sym e i).1 }); has = ap (λ (z : Tally × Chunks). z.0) e }
 tallied-good f (reject n p) t rest h = let z : ◌≡◌ {A = ℕ} 0 1 = cc in absurd (omega arith)
 
-pub phases_at : {A : Type 0} (f : A → Tally) (o : Result (Found A)) (rest : Cursor → Chunks) (from : Cursor) (k : Phase) → Phases f o rest from k → {x : Phase} → k ≡ x → phased rest x ≡ tallied f o
-phases_at f o rest from k h z = subst (λ (x : Phase). phased rest x ≡ tallied f o) z h.is
+pub phases_at : {A : Type 0} (f : A → Tally) (o : Result (Found A)) (rest : Cursor → Chunks) (from : Cursor) (k : std.Result (Tally × Cursor) Refusal) → Phases f o rest from k → {x : (std.Result (Tally × Cursor) Refusal)} → k ≡ x → phased rest x ≡ tallied f o
+phases_at f o rest from k h z = subst (λ (x : std.Result (Tally × Cursor) Refusal). phased rest x ≡ tallied f o) z h.is
 
-pub brushes-at : (o : Result (Found (ℕ × List Brush))) (rest : Cursor → Chunks) (from : Cursor) (k : BrusSummary) → Brushes o rest from k → {x : BrusSummary} → k ≡ x → brushed_by rest x ≡ brushes o
-brushes-at o rest from k h z = subst (λ (x : BrusSummary). brushed_by rest x ≡ brushes o) z h.is
+pub brushes-at : (o : Result (Found (ℕ × List Brush))) (rest : Cursor → Chunks) (from : Cursor) (k : std.Result (ℕ × Tally × Cursor) Refusal) → Brushes o rest from k → {x : (std.Result (ℕ × Tally × Cursor) Refusal)} → k ≡ x → brushed_by rest x ≡ brushes o
+brushes-at o rest from k h z = subst (λ (x : std.Result (ℕ × Tally × Cursor) Refusal). brushed_by rest x ≡ brushes o) z h.is
 
-pub rested-bad : (o : Result ((ℕ × List Brush) × Forest)) (e q : ℕ) → rested o ≡ slotted.Reject e q → o ≡ reject e q
-rested-bad (accept x) e q h = let z : ◌≡◌ {A = ℕ} 0 1 = cc in absurd (omega arith)
-rested-bad (reject n p) e q h = cc
+pub rested-bad : (o : Result ((ℕ × List Brush) × Forest)) (e : Refusal) → rested o ≡ Err e → o ≡ reject e.number e.place
+rested-bad (accept x) e h = let z : ◌≡◌ {A = ℕ} 0 1 = cc in absurd (omega arith)
+rested-bad (reject n p) e h = cc
 
 pub record GaveRest (o : Result ((ℕ × List Brush) × Forest)) (k : ℕ) (t : Tally) : Type 0 where
   pub value : (ℕ × List Brush) × Forest
@@ -46,6 +47,6 @@ pub record GaveRest (o : Result ((ℕ × List Brush) × Forest)) (k : ℕ) (t : 
   pub slots : k ≡ value.0.0
   pub has : t ≡ plus (brus_tally value.0.0 value.0.1) (forest_tally value.1)
 
-pub rested-good : (o : Result ((ℕ × List Brush) × Forest)) (k : ℕ) (t : Tally) → rested o ≡ slotted.Accept k t → GaveRest o k t
-rested-good (accept x) k t h = record { value = x; is = refl; slots = cc; has = cc }
+pub rested-good : (o : Result ((ℕ × List Brush) × Forest)) (k : ℕ) (t : Tally) → rested o ≡ Ok (k, t) → GaveRest o k t
+rested-good (accept x) k t h = let p = pair_inj _ _ _ _ (sym h) in record { value = x; is = refl; slots = p.0; has = p.1 }
 rested-good (reject n p) k t h = let z : ◌≡◌ {A = ℕ} 0 1 = cc in absurd (omega arith)

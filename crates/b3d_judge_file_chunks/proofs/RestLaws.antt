@@ -1,4 +1,8 @@
 -- A law for each way through `judge_last` and `judge_rest`.
+use Rattle.std.specs.Prelude.{Ok, Err, Some, None}
+use Rattle.std.specs.Prelude as std
+use Rattle.layout.specs.declared.Refusal.{Refusal}
+use Rattle.b3d_chunk_next_allowed.specs.declared.Enclosed.{Enclosed}
 use mathlib.Core.Path.{refl, ap, ap₂, sym, subst, ◌≡◌, ◌∙◌}
 use Prim.Native.Nat.{ℕ, ◌≤◌, ◌-◌}
 use native.Mathlib.Omega.{arith}
@@ -21,23 +25,13 @@ use Rattle.b3d_spec.specs.Nesting.{nesting, next as next_turn, reached_at}
 use Rattle.b3d_spec.specs.Parse.{read_one, read_brushes, read_root, slots_of}
 use Rattle.b3d_judge_tally.specs.Tally.{forest_tally, plus, Within}
 use Rattle.b3d_judge_tally.specs.Answers.{judged, JudgedIn, Judges, Onward}
-use Rattle.b3d_judge_materials.specs.declared.BrushesSummary.{BrushesSummary}
-use Rattle.b3d_judge_materials.specs.declared.BrushesSummary.TheVariants as slotted
 use Rattle.b3d_judge_tally.specs.declared.Tally.{Tally}
-use Rattle.b3d_judge_tally.specs.declared.Judged.{Judged}
-use Rattle.b3d_judge_tally.specs.declared.Judged.TheVariants as judge
 use Rattle.b3d_judge_tally.proofs.TallyLaws.{within_more, within-plus}
 use Rattle.b3d_rule_nesting_order.specs.declared.Reached.{Reached as State}
-use Rattle.b3d_chunk_next_allowed.specs.declared.Enclosed.{Enclosed}
-use Rattle.b3d_chunk_next_allowed.specs.declared.Enclosed.TheVariants as enclosed
 use Rattle.b3d_chunk_next_allowed.specs.Steps.{EnclosedIs}
 use Rattle.b3d_chunk_next_allowed.proofs.InsideLaws.{step-turn, stop-before}
 use Rattle.b3d_spec_chunk_places.specs.Places.{rest_in, Among}
 use Rattle.b3d_judge_file_chunks.specs.Answers.{slots_in, brus_in, read_last, read_rest, PhasedIn, Phases, BrushedIn, Brushes, rested, Rests}
-use Rattle.b3d_judge_file_chunks.specs.declared.Phase.{Phase}
-use Rattle.b3d_judge_file_chunks.specs.declared.Phase.TheVariants as phase
-use Rattle.b3d_judge_file_chunks.specs.declared.BrusSummary.{BrusSummary}
-use Rattle.b3d_judge_file_chunks.specs.declared.BrusSummary.TheVariants as brushed
 use Rattle.b3d_judge_tally.proofs.AnswerLaws.{GaveBeside, beside_bad, beside_good, judged_bad, judged_good}
 use Rattle.b3d_judge_materials.proofs.TallyCountLaws.{brus_count}
 use Rattle.b3d_judge_file_chunks.proofs.AnswerLaws.{tallied-bad, GaveFound, tallied-good, phases_at, brushes-at}
@@ -62,17 +56,17 @@ file-next ANIM = refl
 -- ---- the nodes, and nothing after them
 
 module _ (mode : Mode) (s : List ℕ) (from : Cursor) (g : Among 0 from (length s)) (count : ℕ)
-    (i : Phase) (hi : Phases forest_tally (read_one NODE no_nodes (read_root mode count) (rest_in s BB3D 0 (reached_at 2 true) from)) (rest_in s BB3D 0 (reached_at 3 true)) from i) where
-  abbrev Last : Judged → Type 0
+    (i : std.Result (Tally × Cursor) Refusal) (hi : Phases forest_tally (read_one NODE no_nodes (read_root mode count) (rest_in s BB3D 0 (reached_at 2 true) from)) (rest_in s BB3D 0 (reached_at 3 true)) from i) where
+  abbrev Last : std.Result Tally Refusal → Type 0
   Last y = Judges forest_tally (read_last mode count (rest_in s BB3D 0 (reached_at 2 true) from)) from.at from.end y
 
-  pub last-bad : (e q : ℕ) → i ≡ phase.Reject e q → Last (judge.Reject e q)
+  pub last-bad : (e : Refusal) → i ≡ Err e → Last (Err e)
   unfolding read_last
-  last-bad e q w =
-      let n = tallied-bad forest_tally (read_one NODE no_nodes (read_root mode count) (rest_in s BB3D 0 (reached_at 2 true) from)) e q (phases_at forest_tally (read_one NODE no_nodes (read_root mode count) (rest_in s BB3D 0 (reached_at 2 true) from)) (rest_in s BB3D 0 (reached_at 3 true)) from i hi w) in
+  last-bad e w =
+      let n = tallied-bad forest_tally (read_one NODE no_nodes (read_root mode count) (rest_in s BB3D 0 (reached_at 2 true) from)) e.number e.place (phases_at forest_tally (read_one NODE no_nodes (read_root mode count) (rest_in s BB3D 0 (reached_at 2 true) from)) (rest_in s BB3D 0 (reached_at 3 true)) from i hi w) in
       record { is = rw n; within = subst (PhasedIn from) w hi.within }
 
-  module _ (f : Tally) (end : Cursor) (w : i ≡ phase.Accept f end) where
+  module _ (f : Tally) (end : Cursor) (w : i ≡ Ok (f, end)) where
     on : Onward from end f
     on = subst (PhasedIn from) w hi.within
 
@@ -89,34 +83,39 @@ module _ (mode : Mode) (s : List ℕ) (from : Cursor) (g : Among 0 from (length 
     unfolding read_last
     last-read = ap (λ (o : Result (Found Forest)). o >>= λ n. ended n.rest n.value) gave.is
 
-    module _ (r : Enclosed) (x : EnclosedIs s BB3D 0 (record { turn = 3; spent = true }) end r) where
-      pub last-stop : (e p : ℕ) → r ≡ enclosed.Reject e p → Last (judge.Reject e p)
+    module _ (r : std.Result (std.Option Enclosed) Refusal) (x : EnclosedIs s BB3D 0 (record { turn = 3; spent = true }) end r) where
+      pub last-stop : (e : Refusal) → r ≡ Err e → Last (Err e)
       unfolding ended
-      last-stop e p q = record {
-        is = rw (last-read, rest-stop s BB3D 0 (record { turn = 3; spent = true }) end r x e p q);
-        within = let le = stop-before s BB3D 0 (record { turn = 3; spent = true }) end r x e p q in let o = on in omega (arith, o.same);
+      last-stop e q = record {
+        is = rw (last-read, rest-stop s BB3D 0 (record { turn = 3; spent = true }) end r x e q);
+        within = let le = stop-before s BB3D 0 (record { turn = 3; spent = true }) end r x e q in let o = on in omega (arith, o.same);
       }
 
-      pub last_end : r ≡ enclosed.End → Last (judge.Accept f)
+      last_end : r ≡ (Ok None) → Last (Ok f)
       unfolding ended
       last_end q =
           let o = on in
           record {
-            is = ap judge.Accept gave.has ∙ ap (judged forest_tally) (sym (last-read ∙ ap (λ (cs : Chunks). ended cs gave.value) (rest_end s BB3D 0 (record { turn = 3; spent = true }) end r x q)));
+            is = ap Ok gave.has ∙ ap (judged forest_tally) (sym (last-read ∙ ap (λ (cs : Chunks). ended cs gave.value) (rest_end s BB3D 0 (record { turn = 3; spent = true }) end r x q)));
             within = within_more (end.at - from.at) (from.end - from.at) o.within (omega (arith, o.room, o.same));
           }
 
       -- nothing may stand there
-      pub last_more : (t : Tag) (p : ℕ) (b n : Cursor) (v : State) → r ≡ enclosed.Chunk t p b n v → (y : Judged) → Last y
-      last_more t p b n v q y = never (sym (file-next t) ∙ step-turn s BB3D 0 (record { turn = 3; spent = true }) end r x t p b n v q)
+      last_more : (d : Enclosed) → r ≡ Ok (Some d) → (y : std.Result Tally Refusal) → Last y
+      last_more d q y = never (sym (file-next d.tag) ∙ step-turn s BB3D 0 (record { turn = 3; spent = true }) end r x d q)
 
-pub ruleset last_laws = (last-bad, last-inside, last-head, last-stop, last_end, last_more)
+      -- nothing known stands there, so that the read ends with what the nodes gave
+      pub last-over : (o : std.Option Enclosed) → r ≡ Ok o → Last (Ok f)
+      last-over None q = last_end q
+      last-over (Some d) q = last_more d q (Ok f)
+
+pub ruleset last_laws = (last-bad, last-inside, last-head, last-stop, last-over)
 
 -- ---- the ways of `judge_rest`
 
 module _ (mode : Mode) (s : List ℕ) (c : Cursor) (g : Among 0 c (length s)) (textures : ℕ)
-    (k : BrusSummary) (hk : Brushes (read_one BRUS (0, []) (read_brushes mode textures) (rest_in s BB3D 0 (reached_at 1 true) c)) (rest_in s BB3D 0 (reached_at 2 true)) c k) where
-  abbrev Right-rest : BrushesSummary → Type 0
+    (k : std.Result (ℕ × Tally × Cursor) Refusal) (hk : Brushes (read_one BRUS (0, []) (read_brushes mode textures) (rest_in s BB3D 0 (reached_at 1 true) c)) (rest_in s BB3D 0 (reached_at 2 true)) c k) where
+  abbrev Right-rest : std.Result (ℕ × Tally) Refusal → Type 0
   Right-rest y = Rests (read_rest mode textures (rest_in s BB3D 0 (reached_at 1 true) c)) c.at c.end y
 
   -- the nodes after brushes
@@ -126,13 +125,13 @@ module _ (mode : Mode) (s : List ℕ) (c : Cursor) (g : Among 0 c (length s)) (t
   abbrev go : Result (Found (ℕ × List Brush)) → Result ((ℕ × List Brush) × Forest)
   go o = o >>= λ u. after u.value (read_last mode (length u.value.1) u.rest)
 
-  pub rest_brus_bad : (e q : ℕ) → k ≡ brushed.Reject e q → Right-rest (slotted.Reject e q)
+  pub rest_brus_bad : (e : Refusal) → k ≡ Err e → Right-rest (Err e)
   unfolding read_rest
-  rest_brus_bad e q y =
-      let b = beside_bad slots_in brus_in (read_one BRUS (0, []) (read_brushes mode textures) (rest_in s BB3D 0 (reached_at 1 true) c)) e q (brushes-at (read_one BRUS (0, []) (read_brushes mode textures) (rest_in s BB3D 0 (reached_at 1 true) c)) (rest_in s BB3D 0 (reached_at 2 true)) c k hk y) in
+  rest_brus_bad e y =
+      let b = beside_bad slots_in brus_in (read_one BRUS (0, []) (read_brushes mode textures) (rest_in s BB3D 0 (reached_at 1 true) c)) e.number e.place (brushes-at (read_one BRUS (0, []) (read_brushes mode textures) (rest_in s BB3D 0 (reached_at 1 true) c)) (rest_in s BB3D 0 (reached_at 2 true)) c k hk y) in
       record { is = rw b; within = subst (BrushedIn c) y hk.within }
 
-  module _ (slots : ℕ) (b : Tally) (d : Cursor) (y : k ≡ brushed.Accept slots b d) where
+  module _ (slots : ℕ) (b : Tally) (d : Cursor) (y : k ≡ Ok (slots, b, d)) where
     brus_on : Onward c d b
     brus_on = subst (BrushedIn c) y hk.within
 
@@ -152,22 +151,22 @@ module _ (mode : Mode) (s : List ℕ) (c : Cursor) (g : Among 0 c (length s)) (t
         let e : length a.value.1 ≡ b.brushes = sym (ap (λ (q : Tally). q.brushes) a.has ∙ brus_count (slots_of a.value.0 a.value.1) a.value.1) in
         ap go a.is ∙ ap (λ (n : ℕ). after a.value (read_last mode n (rest_in s BB3D 0 (reached_at 2 true) d))) e
 
-    module _ (i : Judged) (hi : Judges forest_tally (read_last mode b.brushes (rest_in s BB3D 0 (reached_at 2 true) d)) d.at d.end i) where
-      pub rest-last-bad : (e q : ℕ) → i ≡ judge.Reject e q → Right-rest (slotted.Reject e q)
-      rest-last-bad e q w =
-          let n = judged_bad forest_tally (read_last mode b.brushes (rest_in s BB3D 0 (reached_at 2 true) d)) e q (sym hi.is ∙ w) in
-          let le : q ≤ d.end = subst (JudgedIn d.at d.end) w hi.within in
+    module _ (i : std.Result Tally Refusal) (hi : Judges forest_tally (read_last mode b.brushes (rest_in s BB3D 0 (reached_at 2 true) d)) d.at d.end i) where
+      pub rest-last-bad : (e : Refusal) → i ≡ Err e → Right-rest (Err e)
+      rest-last-bad e w =
+          let n = judged_bad forest_tally (read_last mode b.brushes (rest_in s BB3D 0 (reached_at 2 true) d)) e (sym hi.is ∙ w) in
+          let le : e.place ≤ d.end = subst (JudgedIn d.at d.end) w hi.within in
           let o = brus_on in
           record { is = rw (brus_read, n); within = omega (arith, o.same) }
 
-      module _ (f : Tally) (w : i ≡ judge.Accept f) where
+      module _ (f : Tally) (w : i ≡ Ok f) where
         last_within : Within f (d.end - d.at)
         last_within = subst (JudgedIn d.at d.end) w hi.within
 
         pub rest-last-small : Within f most_bytes
         rest-last-small = let a = rest-among in within_more (d.end - d.at) most_bytes last_within (omega (arith, a.within, a.small))
 
-        pub rest-good : (m : Tally) → m ≡ plus b f → Right-rest (slotted.Accept slots m)
+        pub rest-good : (m : Tally) → m ≡ plus b f → Right-rest (Ok (slots, m))
         rest-good m e =
             let o = brus_on in
             let u = gave_brus in
@@ -175,7 +174,7 @@ module _ (mode : Mode) (s : List ℕ) (c : Cursor) (g : Among 0 c (length s)) (t
             let n = slots_of u.value.0 u.value.1 in
             let to : read_rest mode textures (rest_in s BB3D 0 (reached_at 1 true) c) ≡ accept ((n, u.value.1), v.value) = brus_read ∙ ap (after u.value) v.is in
             record {
-              is = ap₂ slotted.Accept u.first (e ∙ ap₂ plus u.has v.has) ∙ ap rested (sym to);
+              is = ap₂ (λ a b. Ok (a, b)) u.first (e ∙ ap₂ plus u.has v.has) ∙ ap rested (sym to);
               within = rw e (within-plus b f (d.at - c.at) (d.end - d.at) (c.end - c.at) o.within last_within (omega (arith, o.from_at, o.room, o.same)));
             }
 

@@ -1,4 +1,8 @@
 -- Items that are not looked at, by one division: the answers of `whole_items`, and that they are the items of layout, counted.
+use Rattle.layout.specs.Refused.{refusal_at}
+use Rattle.std.specs.Prelude.{Ok, Err}
+use Rattle.std.specs.Prelude as std
+use Rattle.layout.specs.declared.Refusal.{Refusal}
 use Prim.Native.Nat.{ℕ, ◌+◌, ◌-◌, ◌*◌, ◌/◌, ◌%◌, ◌<◌, ◌≤◌}
 use native.Mathlib.Omega.{arith}
 use native.Mathlib.Nat.{div-add-mod', mod-lt}
@@ -18,17 +22,15 @@ use Rattle.layout.specs.Rules.{any}
 use Rattle.layout.proofs.ResultLaws.{by_test}
 use Rattle.layout.proofs.StepLaws.{length-items-of, any-whole, any-cut}
 use Rattle.b3d_judge_items.specs.Items.{counted, divided_at, CountedIn}
-use Rattle.b3d_judge_items.specs.declared.Counted.{Counted}
-use Rattle.b3d_judge_items.specs.declared.Counted.TheVariants as counts
 
 module _ (c : Cursor) (words : ℕ) where
   -- ---- the answers
 
-  pub divided_whole : (c.end - c.at) % (4 * words) ≡ 0 → counts.Accept ((c.end - c.at) / (4 * words)) ≡ divided_at c words
+  pub divided_whole : (c.end - c.at) % (4 * words) ≡ 0 → Ok ((c.end - c.at) / (4 * words)) ≡ divided_at c words
   unfolding divided_at if
   divided_whole h = rw (eq-eqb _ _ h)
 
-  pub divided_cut : ((c.end - c.at) % (4 * words) ≡ 0 → ⊥) → counts.Reject 5 (c.at + (c.end - c.at) / (4 * words) * (4 * words)) ≡ divided_at c words
+  pub divided_cut : ((c.end - c.at) % (4 * words) ≡ 0 → ⊥) → Err (refusal_at 5 (c.at + (c.end - c.at) / (4 * words) * (4 * words))) ≡ divided_at c words
   unfolding divided_at if
   divided_cut h = rw (ne_eqb _ _ h)
 
@@ -57,17 +59,17 @@ pub ruleset dividing = (divided_whole, divided_cut, divided_room, divided_before
 
 -- ---- what any counted answer says, of the places and of the items
 
-module _ (c : Cursor) (words : ℕ) (r : Counted) (b : CountedIn c words r) where
-  pub counted-room : (k : ℕ) → r ≡ counts.Accept k → k * (4 * words) ≤ c.end - c.at
+module _ (c : Cursor) (words : ℕ) (r : std.Result ℕ Refusal) (b : CountedIn c words r) where
+  pub counted-room : (k : ℕ) → r ≡ Ok k → k * (4 * words) ≤ c.end - c.at
   counted-room k w = subst (CountedIn c words) w b
 
-  pub counted-before : (n p : ℕ) → r ≡ counts.Reject n p → p ≤ c.end
-  counted-before n p w = subst (CountedIn c words) w b
+  pub counted-before : (n : Refusal) → r ≡ Err n → n.place ≤ c.end
+  counted-before n w = subst (CountedIn c words) w b
 
-pub counted_got : (o : Result (List (List ℕ))) (k : ℕ) → counted o ≡ counts.Accept k → (l : List (List ℕ)) × (o ≡ accept l) × (length l ≡ k)
+pub counted_got : (o : Result (List (List ℕ))) (k : ℕ) → counted o ≡ Ok k → (l : List (List ℕ)) × (o ≡ accept l) × (length l ≡ k)
 counted_got (accept l) k e = (l, refl, cc)
 counted_got (reject n p) k e = let z : ◌≡◌ {A = ℕ} 0 1 = cc in absurd (omega arith)
 
-pub counted-bad : (o : Result (List (List ℕ))) (n p : ℕ) → counted o ≡ counts.Reject n p → o ≡ reject n p
-counted-bad (accept l) n p e = let z : ◌≡◌ {A = ℕ} 0 1 = cc in absurd (omega arith)
-counted-bad (reject m q) n p e = cc
+pub counted-bad : (o : Result (List (List ℕ))) (n : Refusal) → counted o ≡ Err n → o ≡ reject n.number n.place
+counted-bad (accept l) n e = let z : ◌≡◌ {A = ℕ} 0 1 = cc in absurd (omega arith)
+counted-bad (reject m q) n e = cc

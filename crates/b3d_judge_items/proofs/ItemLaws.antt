@@ -1,4 +1,8 @@
 -- Items with words under one rule: what each turn of `id_items` and of `colour_items` makes of those that are left.
+use Rattle.layout.specs.Refused.{refusal_at}
+use Rattle.std.specs.Prelude.{Ok, Err}
+use Rattle.std.specs.Prelude as std
+use Rattle.layout.specs.declared.Refusal.{Refusal}
 use Prim.Native.Nat.{ℕ, ◌+◌, ◌-◌, ◌*◌, ◌<◌, ◌≤◌}
 use native.Mathlib.Omega.{arith}
 use native.Mathlib.Nat.{add-mul, zero-mul}
@@ -15,8 +19,6 @@ use Rattle.layout.proofs.StepLaws.{length-words-of, judged-any, row-enough, row-
 use Rattle.shared_ids.specs.Ids.{first_bad}
 use Rattle.shared_ids.proofs.IdLaws.{any-pass, ids-pass, ids-stop}
 use Rattle.b3d_judge_items.specs.Items.{part_row, part_items, id_items, colour_items, counted}
-use Rattle.b3d_judge_items.specs.declared.Counted.{Counted}
-use Rattle.b3d_judge_items.specs.declared.Counted.TheVariants as counts
 
 -- ---- a row
 
@@ -43,20 +45,20 @@ module _ {A : Type 0} (r : Rule) (k n j p : ℕ) (l : List ℕ) (a : A) (h : 4 *
 -- ---- items
 
 -- so many items before others
-abbrev counted_from : ℕ → Result (List (List ℕ)) → Counted
-counted_from k (accept l) = counts.Accept (k + length l)
-counted_from k (reject n p) = counts.Reject n p
+abbrev counted_from : ℕ → Result (List (List ℕ)) → std.Result ℕ Refusal
+counted_from k (accept l) = Ok (k + length l)
+counted_from k (reject n p) = Err (refusal_at n p)
 
 from-none : (o : Result (List (List ℕ))) → counted o ≡ counted_from 0 o
-from-none (accept l) = let e : length l ≡ 0 + length l = omega arith in ap counts.Accept e
+from-none (accept l) = let e : length l ≡ 0 + length l = omega arith in ap Ok e
 from-none (reject n p) = refl
 
 from_one : (k : ℕ) (v : List ℕ) (o : Result (List (List ℕ))) → counted_from k (o >>= λ l. accept (v ∷ l)) ≡ counted_from (k + 1) o
-from_one k v (accept l) = let e : k + length (v ∷ l) ≡ k + 1 + length l = omega arith in ap counts.Accept e
+from_one k v (accept l) = let e : k + length (v ∷ l) ≡ k + 1 + length l = omega arith in ap Ok e
 from_one k v (reject n p) = refl
 
 -- so many items have been passed, from `from` up to a place; x is the answer
-pub record Counting (s : List ℕ) (words : ℕ) (r : Rule) (k n j : ℕ) (from : Cursor) (x : Counted) (at count : ℕ) : Type 0 where
+pub record Counting (s : List ℕ) (words : ℕ) (r : Rule) (k n j : ℕ) (from : Cursor) (x : std.Result ℕ Refusal) (at count : ℕ) : Type 0 where
   pub to : at ≤ from.end
   pub within : from.end ≤ length s
   pub few : from.at + count ≤ at
@@ -75,7 +77,7 @@ module _ (words : ℕ) (r : Rule) (k n j : ℕ) (pos : 0 < words) (sum : k + (n 
       → row (part_row r k n j) at l ≡ judged (part_row r k n j) at (words_of (k + (n + j)) l) (record { value = words_of words l; place = at + 4 * words; left = drop (4 * words) l })
   one at l h = rw sum (rw long at (row-enough (part_row r k n j) at l (omega (arith, long))))
 
-module _ (s : List ℕ) (words : ℕ) (r : Rule) (k n j : ℕ) (from : Cursor) (x : Counted) where
+module _ (s : List ℕ) (words : ℕ) (r : Rule) (k n j : ℕ) (from : Cursor) (x : std.Result ℕ Refusal) where
   count_none : Inside from (length s) → x ≡ counted (part_items r k n j from.at (left from s)) → Counting s words r k n j from x from.at 0
   count_none i e = record {
     to = i.before;
@@ -89,7 +91,7 @@ module _ (s : List ℕ) (words : ℕ) (r : Rule) (k n j : ℕ) (from : Cursor) (
     left_here : length (left (span at from.end) s) ≡ from.end - at
     left_here = left-length s (span at from.end) (record { before = c.to; within = c.within })
 
-    count_done : from.end ≤ at → counts.Accept count ≡ x
+    count_done : from.end ≤ at → Ok count ≡ x
     count_done h =
         let e : count + 0 ≡ count = omega arith in
         sym (c.rest ∙ rw (left-nil s (span at from.end) h, items-none (row (part_row r k n j)) (less words r k n j pos sum) at, e))
@@ -99,7 +101,7 @@ module _ (s : List ℕ) (words : ℕ) (r : Rule) (k n j : ℕ) (from : Cursor) (
           ≡ (row (part_row r k n j) at (left (span at from.end) s) >>= λ v. part_items r k n j v.place v.left >>= λ l. accept (v.value ∷ l))
       step = items-step (row (part_row r k n j)) (less words r k n j pos sum) at (left (span at from.end) s) (omega (arith, left_here))
 
-      count_cut : from.end - at < 4 * words → counts.Reject 5 at ≡ x
+      count_cut : from.end - at < 4 * words → Err (refusal_at 5 at) ≡ x
       count_cut q = sym (c.rest ∙ rw (step, row-short (part_row r k n j) at (left (span at from.end) s) (omega (arith, left_here, long words r k n j pos sum))))
 
       module _ (whole : 4 * words ≤ from.end - at) (first : ℕ) (d : first ≡ at + 4 * k) (g : ℕ) (e : g ≡ first_bad r (words_of n (left (record { at = first; end = from.end }) s))) where
@@ -107,7 +109,7 @@ module _ (s : List ℕ) (words : ℕ) (r : Rule) (k n j : ℕ) (from : Cursor) (
         there : g ≡ first_bad r (words_of n (drop (4 * k) (left (span at from.end) s)))
         there = e ∙ ap (λ (l : List ℕ). first_bad r (words_of n l)) (left-drop s (span at from.end) (4 * k) (span first from.end) d refl)
 
-        count_bad : g < n → counts.Reject (refusal r) (first + 4 * g) ≡ x
+        count_bad : g < n → Err (refusal_at (refusal r) (first + 4 * g)) ≡ x
         count_bad q =
             let l = left (span at from.end) s in
             sym (c.rest ∙ rw (step, one words r k n j pos sum at l (omega (arith, left_here)), part-bad r k n j at l _ (omega (arith, left_here)) (omega (arith, there)), ← there, ← d))
@@ -131,7 +133,7 @@ module _ (s : List ℕ) (words : ℕ) (r : Rule) (k n j : ℕ) (from : Cursor) (
 
 -- ---- ids from the first word on
 
-module _ (s : List ℕ) (words ids limit : ℕ) (from : Cursor) (x : Counted) where
+module _ (s : List ℕ) (words ids limit : ℕ) (from : Cursor) (x : std.Result ℕ Refusal) where
   pub id_items_none : Inside from (length s) → x ≡ counted (id_items ids (words - ids) limit from.at (left from s)) → Counting s words (names limit) 0 ids (words - ids) from x from.at 0
   id_items_none = count_none s words (names limit) 0 ids (words - ids) from x
 
@@ -139,18 +141,18 @@ module _ (s : List ℕ) (words ids limit : ℕ) (from : Cursor) (x : Counted) wh
     id_items_sum : 0 + (ids + (words - ids)) ≡ words
     id_items_sum = omega arith
 
-    pub id_items_done : from.end ≤ at → counts.Accept count ≡ x
+    pub id_items_done : from.end ≤ at → Ok count ≡ x
     id_items_done = count_done s words (names limit) 0 ids (words - ids) from x at count c pos id_items_sum
 
     module _ (h : at < from.end) where
-      pub id_items_cut : from.end - at < 4 * words → counts.Reject 5 at ≡ x
+      pub id_items_cut : from.end - at < 4 * words → Err (refusal_at 5 at) ≡ x
       id_items_cut = count_cut s words (names limit) 0 ids (words - ids) from x at count c pos id_items_sum h
 
       module _ (whole : 4 * words ≤ from.end - at) (g : ℕ) (e : g ≡ first_bad (names limit) (words_of ids (left (record { at = at; end = from.end }) s))) where
         first_is : at ≡ at + 4 * 0
         first_is = omega arith
 
-        pub id_items_bad : g < ids → counts.Reject 7 (at + 4 * g) ≡ x
+        pub id_items_bad : g < ids → Err (refusal_at 7 (at + 4 * g)) ≡ x
         id_items_bad = count_bad s words (names limit) 0 ids (words - ids) from x at count c pos id_items_sum h whole at first_is g e
 
         pub id_items_one : ids ≤ g → g ≤ ids → Counting s words (names limit) 0 ids (words - ids) from x (at + 4 * words) (count + 1)
@@ -160,7 +162,7 @@ pub ruleset id-counting = (id_items_none, id_items_done, id_items_cut, id_items_
 
 -- ---- colours behind so many words
 
-module _ (s : List ℕ) (words k n : ℕ) (from : Cursor) (x : Counted) where
+module _ (s : List ℕ) (words k n : ℕ) (from : Cursor) (x : std.Result ℕ Refusal) where
   pub colour_items_none : Inside from (length s) → x ≡ counted (colour_items k n (words - (k + n)) from.at (left from s)) → Counting s words unit k n (words - (k + n)) from x from.at 0
   colour_items_none = count_none s words unit k n (words - (k + n)) from x
 
@@ -168,15 +170,15 @@ module _ (s : List ℕ) (words k n : ℕ) (from : Cursor) (x : Counted) where
     colour_items_sum : k + (n + (words - (k + n))) ≡ words
     colour_items_sum = omega arith
 
-    pub colour_items_done : from.end ≤ at → counts.Accept count ≡ x
+    pub colour_items_done : from.end ≤ at → Ok count ≡ x
     colour_items_done = count_done s words unit k n (words - (k + n)) from x at count c pos colour_items_sum
 
     module _ (h : at < from.end) where
-      pub colour_items_cut : from.end - at < 4 * words → counts.Reject 5 at ≡ x
+      pub colour_items_cut : from.end - at < 4 * words → Err (refusal_at 5 at) ≡ x
       colour_items_cut = count_cut s words unit k n (words - (k + n)) from x at count c pos colour_items_sum h
 
       module _ (whole : 4 * words ≤ from.end - at) (first : ℕ) (d : first ≡ at + 4 * k) (g : ℕ) (e : g ≡ first_bad unit (words_of n (left (record { at = first; end = from.end }) s))) where
-        pub colour_items_bad : g < n → counts.Reject 6 (first + 4 * g) ≡ x
+        pub colour_items_bad : g < n → Err (refusal_at 6 (first + 4 * g)) ≡ x
         colour_items_bad = count_bad s words unit k n (words - (k + n)) from x at count c pos colour_items_sum h whole first d g e
 
         pub colour_items_one : n ≤ g → g ≤ n → Counting s words unit k n (words - (k + n)) from x (at + 4 * words) (count + 1)

@@ -1,12 +1,13 @@
 -- Items with ids or colours, to the end of a chunk.
-use Rattle.std.specs.Prelude.{ℕ, ◌+◌, ◌-◌, ◌*◌, ◌/◌, ◌%◌, ◌≤◌, List, ◌++◌, length, replicate, eqb}
+use Rattle.layout.specs.Refused.{refusal_at}
+use Rattle.std.specs.Prelude as std
+use Rattle.layout.specs.declared.Refusal.{Refusal}
+use Rattle.std.specs.Prelude.{ℕ, ◌+◌, ◌-◌, ◌*◌, ◌/◌, ◌%◌, ◌≤◌, List, ◌++◌, length, replicate, eqb, Ok, Err}
 use Rattle.wire.specs.Test.{if}
 use Rattle.wire.specs.declared.Cursor.{Cursor}
 use Rattle.layout.specs.Result.{Result, accept, reject}
 use Rattle.layout.specs.Rules.{Rule, any, names, unit}
 use Rattle.layout.specs.Parts.{row, items}
-use Rattle.b3d_judge_items.specs.declared.Counted.{Counted}
-use Rattle.b3d_judge_items.specs.declared.Counted.TheVariants as counts
 
 -- the rules of an item: `before` words that are not looked at, n under the rule r, and `after` words that are not looked at
 abbrev pub part_row : Rule → ℕ → ℕ → ℕ → List Rule
@@ -25,18 +26,18 @@ abbrev pub colour_items : ℕ → ℕ → ℕ → ℕ → List ℕ → Result (L
 colour_items before n after p s = part_items unit before n after p s
 
 -- how many items were read, or the refusal
-abbrev pub counted : Result (List (List ℕ)) → Counted
-counted (accept l) = counts.Accept (length l)
-counted (reject n p) = counts.Reject n p
+abbrev pub counted : Result (List (List ℕ)) → std.Result ℕ Refusal
+counted (accept l) = Ok (length l)
+counted (reject n p) = Err (refusal_at n p)
 
 -- how many items of `words` words the cursor c has left, by one division; 5 at an item that is cut
-unfoldable pub divided_at : Cursor → ℕ → Counted
+unfoldable pub divided_at : Cursor → ℕ → std.Result ℕ Refusal
 divided_at c words =
     let size = 4 * words in
     let n = c.end - c.at in
-    if (eqb (n % size) 0) (counts.Accept (n / size)) (counts.Reject 5 (c.at + n / size * size))
+    if (eqb (n % size) 0) (Ok (n / size)) (Err (refusal_at 5 (c.at + n / size * size)))
 
 -- k items of `words` words have room in what c has left; a refusal's place is not past its end
-abbrev pub CountedIn : Cursor → ℕ → Counted → Type 0
-CountedIn c words (counts.Accept k) = k * (4 * words) ≤ c.end - c.at
-CountedIn c words (counts.Reject n p) = p ≤ c.end
+abbrev pub CountedIn : Cursor → ℕ → std.Result ℕ Refusal → Type 0
+CountedIn c words (Ok k) = k * (4 * words) ≤ c.end - c.at
+CountedIn c words (Err e) = e.place ≤ c.end

@@ -1,4 +1,8 @@
 -- A BRUS: what the answers say of `read_brushes`.
+use Rattle.layout.specs.Refused.{refusal_at}
+use Rattle.std.specs.Prelude.{Ok, Err, Some, None}
+use Rattle.std.specs.Prelude as std
+use Rattle.layout.specs.declared.Refusal.{Refusal}
 use Prim.Native.Nat.{ℕ, zero, suc, ◌≤◌, ◌<◌, ◌+◌, ◌-◌, ◌*◌}
 use native.Mathlib.Omega.{arith}
 use native.Mathlib.Nat.{mul-le-mul_left}
@@ -9,8 +13,6 @@ use borrow.Author.Tests.{lt-leb, le-leb}
 use Rattle.wire.specs.Bytes.{word_at}
 use Rattle.wire.specs.Cursors.{Inside, left, number_at}
 use Rattle.wire.specs.declared.Cursor.{Cursor}
-use Rattle.wire.specs.declared.Number.{Number}
-use Rattle.wire.specs.declared.Number.TheVariants as number
 use Rattle.wire.proofs.LeftLaws.{left-length, left-four}
 use Rattle.wire.proofs.AnswerLaws.{numbered, number_cut}
 use Rattle.layout.specs.Result.{Result, accept, reject, check, ◌>>=◌}
@@ -22,24 +24,20 @@ use Rattle.b3d_spec.specs.declared.Mode.{Mode}
 use Rattle.b3d_spec.specs.Scene.{Brush}
 use Rattle.b3d_spec.specs.Rules.{slots}
 use Rattle.b3d_spec.specs.Parse.{read_brush, read_brushes, slots_of}
-use Rattle.b3d_judge_items.specs.declared.Counted.{Counted}
-use Rattle.b3d_judge_items.specs.declared.Counted.TheVariants as counts
 use Rattle.b3d_judge_tally.specs.Tally.{no_tally, brus_of, brus_tally, Within}
 use Rattle.b3d_spec_chunk_places.specs.Places.{Body}
 use Rattle.b3d_judge_materials.specs.Answers.{slotted, SlotsAre}
 use Rattle.b3d_judge_brush_items.specs.Brushes.{counted_brushes, BrushesIn}
 use Rattle.b3d_judge_tally.specs.declared.Tally.{Tally}
-use Rattle.b3d_judge_materials.specs.declared.BrushesSummary.{BrushesSummary}
-use Rattle.b3d_judge_materials.specs.declared.BrushesSummary.TheVariants as slot
 use Rattle.b3d_judge_tally.proofs.TallyLaws.{within_none}
 
 -- ---- a head of one number
 
-module _ (s : List ℕ) (c : Cursor) (i : Inside c (length s)) (rule : Rule) (r : Number) (e : r ≡ number_at s c) where
-  head_short : r ≡ number.Cut → row (rule ∷ []) c.at (left c s) ≡ reject 5 c.at
+module _ (s : List ℕ) (c : Cursor) (i : Inside c (length s)) (rule : Rule) (r : std.Option (ℕ × Cursor)) (e : r ≡ number_at s c) where
+  head_short : r ≡ None → row (rule ∷ []) c.at (left c s) ≡ reject 5 c.at
   head_short q = row-short (rule ∷ []) c.at (left c s) (omega (arith, left-length s c i, number_cut s c (sym e ∙ q)))
 
-  head-is : (k : ℕ) (n : Cursor) → r ≡ number.Is k n
+  head-is : (k : ℕ) (n : Cursor) → r ≡ Some (k, n)
       → row (rule ∷ []) c.at (left c s) ≡ (check (holds rule k) (refusal rule) c.at >>= λ _. accept (record { value = k ∷ []; place = n.at; left = left n s }))
   unfolding row words judged word_at
   head-is k n q = let f = numbered s c k n (sym e ∙ q) in rw (left-four s c n i f.room f.to f.same, f.is, f.to)
@@ -55,40 +53,40 @@ within_brus slots (suc k) n le =
     record { rows = omega arith; copy = omega arith }
 
 module _ (k : ℕ) where
-  slots-not : (o : Result (List Brush)) (x p : ℕ) → counts.Reject x p ≡ counted_brushes o → slot.Reject x p ≡ slotted (o >>= λ l. accept (k, l))
-  slots-not (accept l) x p e = let z : ◌≡◌ {A = ℕ} 0 1 = cc in absurd (omega arith)
-  slots-not (reject n q) x p e = cc
+  slots-not : (o : Result (List Brush)) (x : Refusal) → Err x ≡ counted_brushes o → Err x ≡ slotted (o >>= λ l. accept (k, l))
+  slots-not (accept l) x e = let z : ◌≡◌ {A = ℕ} 0 1 = cc in absurd (omega arith)
+  slots-not (reject n q) x e = cc
 
   -- without a brushOf there are no slots
-  slots-none : (o : Result (List Brush)) → counts.Accept 0 ≡ counted_brushes o → slot.Accept 0 no_tally ≡ slotted (o >>= λ l. accept (k, l))
+  slots-none : (o : Result (List Brush)) → Ok 0 ≡ counted_brushes o → Ok (0, no_tally) ≡ slotted (o >>= λ l. accept (k, l))
   unfolding slots_of brus_tally brus_of
   slots-none (accept []) e = refl
   slots-none (accept (b ∷ l)) e = let z : 0 ≡ suc (length l) = cc in absurd (omega arith)
   slots-none (reject n q) e = let z : ◌≡◌ {A = ℕ} 0 1 = cc in absurd (omega arith)
 
-  slots-some : (o : Result (List Brush)) (count : ℕ) → (count ≡ 0 → ⊥) → counts.Accept count ≡ counted_brushes o → slot.Accept k (brus_of k count) ≡ slotted (o >>= λ l. accept (k, l))
+  slots-some : (o : Result (List Brush)) (count : ℕ) → (count ≡ 0 → ⊥) → Ok count ≡ counted_brushes o → Ok (k, brus_of k count) ≡ slotted (o >>= λ l. accept (k, l))
   unfolding slots_of brus_tally
   slots-some (accept []) count h e = let z : count ≡ 0 = cc in absurd (h z)
-  slots-some (accept (b ∷ l)) count h e = let z : count ≡ suc (length l) = cc in ap (λ (i : ℕ). slot.Accept k (brus_of k i)) z
+  slots-some (accept (b ∷ l)) count h e = let z : count ≡ suc (length l) = cc in ap (λ (i : ℕ). Ok (k, brus_of k i)) z
   slots-some (reject n q) count h e = let z : ◌≡◌ {A = ℕ} 0 1 = cc in absurd (omega arith)
 
-module _ (mode : Mode) (textures at : ℕ) (s : List ℕ) (body : Cursor) (b : Body at body (length s)) (r : Number) (e : r ≡ number_at s body) where
-  abbrev Answer : BrushesSummary → Type 0
+module _ (mode : Mode) (textures at : ℕ) (s : List ℕ) (body : Cursor) (b : Body at body (length s)) (r : std.Option (ℕ × Cursor)) (e : r ≡ number_at s body) where
+  abbrev Answer : std.Result (ℕ × Tally) Refusal → Type 0
   Answer x = SlotsAre (read_brushes mode textures at (left body s)) at body.end x
 
   inside : Inside body (length s)
   inside = record { before = b.room; within = b.within }
 
-  pub head_cut : r ≡ number.Cut → Answer (slot.Reject 5 body.at)
+  pub head_cut : r ≡ None → Answer (Err (refusal_at 5 body.at))
   unfolding read_brushes
   head_cut q = record { is = rw (← b.head, head_short s body inside slots r e q); within = b.room }
 
-  module _ (k : ℕ) (n : Cursor) (q : r ≡ number.Is k n) where
-    pub head_over : 8 < k → Answer (slot.Reject 6 body.at)
+  module _ (k : ℕ) (n : Cursor) (q : r ≡ Some (k, n)) where
+    pub head_over : 8 < k → Answer (Err (refusal_at 6 body.at))
     unfolding read_brushes check
     head_over h = record { is = rw (← b.head, head-is s body inside slots r e k n q, lt-leb _ _ h); within = b.room }
 
-    module _ (h : k ≤ 8) (m : ℕ) (y : m ≡ k) (t : Counted) (f : t ≡ counted_brushes (items (read_brush mode m textures) n.at (left n s))) (w : BrushesIn n m t) where
+    module _ (h : k ≤ 8) (m : ℕ) (y : m ≡ k) (t : std.Result ℕ Refusal) (f : t ≡ counted_brushes (items (read_brush mode m textures) n.at (left n s))) (w : BrushesIn n m t) where
       abbrev all_k : Result (List Brush)
       all_k = items (read_brush mode k textures) n.at (left n s)
 
@@ -96,13 +94,13 @@ module _ (mode : Mode) (textures at : ℕ) (s : List ℕ) (body : Cursor) (b : B
       unfolding read_brushes check
       after-head = rw (← b.head, head-is s body inside slots r e k n q, le-leb _ _ h)
 
-      pub brushes-not : (x p : ℕ) → t ≡ counts.Reject x p → Answer (slot.Reject x p)
-      brushes-not x p v =
+      pub brushes-not : (x : Refusal) → t ≡ Err x → Answer (Err x)
+      brushes-not x v =
           let a = numbered s body k n (sym e ∙ q) in
-          let z : p ≤ n.end = subst (BrushesIn n m) v w in
-          record { is = rw after-head (slots-not k all_k x p (sym v ∙ rw y at f)); within = omega arith }
+          let z : x.place ≤ n.end = subst (BrushesIn n m) v w in
+          record { is = rw after-head (slots-not k all_k x (sym v ∙ rw y at f)); within = omega arith }
 
-      module _ (count : ℕ) (v : t ≡ counts.Accept count) where
+      module _ (count : ℕ) (v : t ≡ Ok count) where
         room : count * (29 + 4 * m) ≤ n.end - n.at
         room = subst (BrushesIn n m) v w
 
@@ -112,10 +110,10 @@ module _ (mode : Mode) (textures at : ℕ) (s : List ℕ) (body : Cursor) (b : B
             let z : 1 ≤ 29 + 4 * m = omega arith in
             omega (arith, room, mul-le-mul_left count z)
 
-        pub no-brush : count ≡ 0 → (u : Tally) → u ≡ no_tally → Answer (slot.Accept 0 u)
+        pub no-brush : count ≡ 0 → (u : Tally) → u ≡ no_tally → Answer (Ok (0, u))
         no-brush z u g = record { is = rw (g, after-head) (slots-none k all_k (rw z at (sym v ∙ rw y at f))); within = rw g (within_none _) }
 
-        pub some-brush : (count ≡ 0 → ⊥) → (u : Tally) → u ≡ brus_of m count → Answer (slot.Accept k u)
+        pub some-brush : (count ≡ 0 → ⊥) → (u : Tally) → u ≡ brus_of m count → Answer (Ok (k, u))
         some-brush z u g =
             let a = numbered s body k n (sym e ∙ q) in
             record { is = rw (g, y, after-head) (slots-some k all_k count z (sym v ∙ rw y at f)); within = rw g (within_brus m count (body.end - at) (omega (arith, room))) }

@@ -1,4 +1,9 @@
 -- The textures of a TEXS: what the loop of `judge_textures` has passed, and what its answers say of `read_textures`.
+use Rattle.layout.specs.Refused.{refusal_at}
+use Rattle.std.specs.Prelude.{Ok, Err, Some, None}
+use Rattle.std.specs.Prelude as std
+use Rattle.layout.specs.declared.Refusal.{Refusal}
+use Rattle.b3d_chunk_cursor.specs.declared.Named.{Named}
 use Prim.Native.Nat.{ℕ, zero, suc, ◌≤◌, ◌<◌, ◌+◌, ◌-◌, ◌*◌}
 use native.Mathlib.Omega.{arith}
 use mathlib.Core.Path.{◌≡◌, refl, ap}
@@ -13,15 +18,10 @@ use Rattle.b3d_spec.specs.Scene.{Texture}
 use Rattle.b3d_spec.specs.Rules.{texture_row}
 use Rattle.b3d_spec.specs.Parse.{read_texture, read_textures, texture_of}
 use Rattle.b3d_chunk_cursor.specs.Chunks.{named_at, NamedIn}
-use Rattle.b3d_chunk_cursor.specs.declared.Named.{Named}
-use Rattle.b3d_chunk_cursor.specs.declared.Named.TheVariants as named
-use Rattle.b3d_judge_items.specs.declared.Counted.TheVariants as counts
 use Rattle.b3d_judge_tally.specs.Tally.{texs_of, texs_tally, Within}
 use Rattle.b3d_spec_chunk_places.specs.Places.{Body}
 use Rattle.b3d_judge_tally.specs.Answers.{judged, Judges}
 use Rattle.b3d_judge_tally.specs.declared.Tally.{Tally}
-use Rattle.b3d_judge_tally.specs.declared.Judged.{Judged}
-use Rattle.b3d_judge_tally.specs.declared.Judged.TheVariants as judge
 use Rattle.b3d_judge_tally.proofs.TallyLaws.{within_none}
 use Rattle.b3d_judge_brush_items.proofs.CountLaws.{counted_from, Counting, count_none, count_done, count_cut, count_one}
 
@@ -32,17 +32,17 @@ unfolding texs_of
 within_texs zero n le = within_none n
 within_texs (suc k) n le = record { rows = omega arith; copy = omega arith }
 
-texs_good : (o : Result (List Texture)) (k : ℕ) → counted_from 0 o ≡ counts.Accept k → judge.Accept (texs_of k) ≡ judged texs_tally o
+texs_good : (o : Result (List Texture)) (k : ℕ) → counted_from 0 o ≡ Ok k → Ok (texs_of k) ≡ judged texs_tally o
 unfolding texs_tally
 texs_good (accept l) k e =
     let z : 0 + length l ≡ k = cc in
     let q : k ≡ length l = omega arith in
-    ap (λ (i : ℕ). judge.Accept (texs_of i)) q
+    ap (λ (i : ℕ). Ok (texs_of i)) q
 texs_good (reject n p) k e = let z : ◌≡◌ {A = ℕ} 0 1 = cc in absurd (omega arith)
 
-texs_bad : (o : Result (List Texture)) (n p : ℕ) → counted_from 0 o ≡ counts.Reject n p → judge.Reject n p ≡ judged texs_tally o
-texs_bad (accept l) n p e = let z : ◌≡◌ {A = ℕ} 0 1 = cc in absurd (omega arith)
-texs_bad (reject m q) n p e = cc
+texs_bad : (o : Result (List Texture)) (n : Refusal) → counted_from 0 o ≡ Err n → Err n ≡ judged texs_tally o
+texs_bad (accept l) n e = let z : ◌≡◌ {A = ℕ} 0 1 = cc in absurd (omega arith)
+texs_bad (reject m q) n e = cc
 
 -- ---- the loop
 
@@ -51,30 +51,30 @@ abbrev pub Textures : List ℕ → Cursor → Cursor → ℕ → Type 0
 Textures s from c count = Counting read_texture 29 s from c count
 
 module _ (s : List ℕ) (at : ℕ) (body : Cursor) (b : Body at body (length s)) where
-  abbrev Answer : Judged → Type 0
+  abbrev Answer : std.Result Tally Refusal → Type 0
   Answer r = Judges texs_tally (read_textures at (left body s)) at body.end r
 
   pub textures-none : Textures s body body 0
   textures-none = count_none read_texture 29 s body (record { before = b.room; within = b.within })
 
   module _ (c : Cursor) (count : ℕ) (k : Textures s body c count) where
-    pub textures-done : c.end ≤ c.at → (t : Tally) → t ≡ texs_of count → Answer (judge.Accept t)
+    pub textures-done : c.end ≤ c.at → (t : Tally) → t ≡ texs_of count → Answer (Ok t)
     unfolding read_textures read_texture
     textures-done h t e = record {
       is = rw (e, ← b.head) (texs_good (items read_texture body.at (left body s)) count (count_done texture_of texture_row k h));
       within = rw e (within_texs count (body.end - at) (omega arith));
     }
 
-    module _ (h : c.at < c.end) (r : Named) (e : r ≡ named_at s c 7) where
-      pub textures-cut : r ≡ named.Cut → Answer (judge.Reject 5 c.at)
+    module _ (h : c.at < c.end) (r : std.Option Named) (e : r ≡ named_at s c 7) where
+      pub textures-cut : r ≡ None → Answer (Err (refusal_at 5 c.at))
       unfolding read_textures read_texture
       textures-cut q = record {
-        is = rw (← b.head) (texs_bad (items read_texture body.at (left body s)) 5 c.at (count_cut texture_of texture_row k h refl e q));
+        is = rw (← b.head) (texs_bad (items read_texture body.at (left body s)) (refusal_at 5 c.at) (count_cut texture_of texture_row k h refl e q));
         within = omega arith;
       }
 
-      pub textures-one : (len : ℕ) (w n : Cursor) → r ≡ named.Is len w n → NamedIn c 7 r → Textures s body n (count + 1)
+      pub textures-one : (f : Named) → r ≡ Some f → NamedIn c 7 r → Textures s body f.next (count + 1)
       unfolding read_texture
-      textures-one len w n q i = count_one texture_of texture_row k h refl e q i refl (judged-any 7 w.at (words_of 7 (left w s)))
+      textures-one f q i = count_one texture_of texture_row k h refl e q i refl (judged-any 7 f.row.at (words_of 7 (left f.row s)))
 
 pub ruleset textures = (textures-none, textures-done, textures-cut, textures-one)

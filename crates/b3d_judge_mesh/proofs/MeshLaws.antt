@@ -1,4 +1,9 @@
 -- A law for each way through `judge_mesh`.
+use Rattle.layout.specs.Refused.{refusal_at}
+use Rattle.std.specs.Prelude.{Err, Some, None}
+use Rattle.std.specs.Prelude as std
+use Rattle.b3d_judge_tally.specs.declared.Tally.{Tally}
+use Rattle.layout.specs.declared.Refusal.{Refusal}
 use mathlib.Core.Path.{refl, ap, sym, subst, ◌≡◌, ◌∙◌}
 use Prim.Native.Nat.{ℕ, ◌≤◌, ◌+◌}
 use native.Mathlib.Omega.{arith}
@@ -7,8 +12,6 @@ use mathlib.Core.List.{List}
 use lib.ListN.{length}
 use Rattle.wire.specs.Cursors.{Inside, left, number_at}
 use Rattle.wire.specs.declared.Cursor.{Cursor}
-use Rattle.wire.specs.declared.Number.{Number}
-use Rattle.wire.specs.declared.Number.TheVariants as number
 use Rattle.layout.specs.Result.{Result, accept, reject, ◌>>=◌}
 use Rattle.layout.specs.Rules.{holds}
 use Rattle.b3d_spec.specs.declared.Mode.{Mode}
@@ -22,8 +25,6 @@ use Rattle.b3d_judge_tally.specs.Tally.{mesh_tally}
 use Rattle.b3d_spec_chunk_places.specs.Places.{Body, rest_in, Among}
 use Rattle.b3d_spec_chunk_places.proofs.HeadLaws.{head_cut, head-numbered, head-refused, head-kept, body-inside}
 use Rattle.b3d_judge_mesh.specs.Answers.{read_after, read_inside, meshed, MeshedIn, Meshes}
-use Rattle.b3d_judge_mesh.specs.declared.MeshSummary.{MeshSummary}
-use Rattle.b3d_judge_mesh.specs.declared.MeshSummary.TheVariants as meshes
 
 -- a mesh's brush is not counted
 brush_free : (mode : Mode) (brushes x y : ℕ) (cs : Chunks) → meshed (read_inside mode brushes x cs) ≡ meshed (read_inside mode brushes y cs)
@@ -40,19 +41,19 @@ brush_free mode brushes x y cs = go (read_one VRTS no_vertices (read_vertices mo
     go (accept v) = sets v.value (read_sets brushes (length v.value.items) v.rest)
     go (reject n p) = refl
 
-module _ (mode : Mode) (s : List ℕ) (at : ℕ) (body : Cursor) (g : Body at body (length s)) (brushes : ℕ) (r : Number) (e : r ≡ number_at s body) where
-  abbrev Right : MeshSummary → Type 0
+module _ (mode : Mode) (s : List ℕ) (at : ℕ) (body : Cursor) (g : Body at body (length s)) (brushes : ℕ) (r : std.Option (ℕ × Cursor)) (e : r ≡ number_at s body) where
+  abbrev Right : std.Result (ℕ × Tally) Refusal → Type 0
   Right y = Meshes (read_mesh mode brushes at (left body s)) at body.end y
 
   pub mesh-inside : Inside body (length s)
   mesh-inside = body-inside s at body g
 
-  pub mesh-cut : r ≡ number.Cut → Right (meshes.Reject 5 body.at)
+  pub mesh-cut : r ≡ None → Right (Err (refusal_at 5 body.at))
   unfolding read_mesh
   mesh-cut w = record { is = rw (head_cut s at body g r e (brush_id brushes) w); within = g.room }
 
-  module _ (k : ℕ) (c : Cursor) (w : r ≡ number.Is k c) (ok : Bool) (a : ok ≡ holds (brush_id brushes) k) where
-    pub mesh-brush : not ok ≡ true → Right (meshes.Reject 7 body.at)
+  module _ (k : ℕ) (c : Cursor) (w : r ≡ Some (k, c)) (ok : Bool) (a : ok ≡ holds (brush_id brushes) k) where
+    pub mesh-brush : not ok ≡ true → Right (Err (refusal_at 7 body.at))
     unfolding read_mesh
     mesh-brush h = record { is = rw (head-refused s at body g r e k c w (brush_id brushes) ok a h); within = g.room }
 
@@ -64,7 +65,7 @@ module _ (mode : Mode) (s : List ℕ) (at : ℕ) (body : Cursor) (g : Body at bo
     pub mesh_far : at + 12 ≤ c.at
     mesh_far = let f = head-numbered s at body g r e k c w in omega (arith, g.head)
 
-    pub mesh-inner : not ok ≡ false → (j : MeshSummary) → Meshes (read_inside mode brushes 0 (rest_in s MESH at start c)) at c.end j → Right j
+    pub mesh-inner : not ok ≡ false → (j : std.Result (ℕ × Tally) Refusal) → Meshes (read_inside mode brushes 0 (rest_in s MESH at start c)) at c.end j → Right j
     unfolding read_mesh read_inside read_after rest_in inside
     mesh-inner h j hj =
         let f = head-numbered s at body g r e k c w in

@@ -14,19 +14,11 @@ ghost use Rattle.b3d_spec.specs.Tables.{vertex_width};
 ghost use Rattle.b3d_judge_mesh.specs.Answers.{read_after, read_inside, Meshes};
 
 use b3d_chunk_next_allowed::Enclosed;
-use b3d_judge_bodies::VerticesSummary;
-use b3d_judge_tally::{Judged, Tally};
+use b3d_judge_tally::Tally;
 use b3d_rule_nesting_order::Reached;
 use b3d_spec::{Mode, Tag};
-use layout::refusals;
-use wire::{Cursor, Number};
-
-// How many vertices a mesh has, and its tally; or a refusal and its place.
-#[derive(Clone, Copy)]
-pub enum MeshSummary {
-    Accept(usize, Tally),
-    Reject(u32, usize),
-}
+use layout::{Refusal, refusals};
+use wire::Cursor;
 
 // How far the chunks inside a MESH have come after its VRTS.
 const VRTS_READ: Reached = Reached {
@@ -36,7 +28,13 @@ const VRTS_READ: Reached = Reached {
 
 // Judges the TRIS chunks from the cursor `from` to the end of a MESH whose header is at `at`, with this number of `brushes` and `vertices`. Returns their
 // tally, or the first refusal: 8 at `at` where there is none.
-pub fn judge_sets(s: &[u8], at: usize, from: Cursor, brushes: usize, vertices: usize) -> Judged
+pub fn judge_sets(
+    s: &[u8],
+    at: usize,
+    from: Cursor,
+    brushes: usize,
+    vertices: usize,
+) -> Result<Tally, Refusal>
     requires { Among at from (length s.now) }
     ensures { Judges sets_tally (read_sets brushes vertices (rest_in s.now MESH at (reached_at 1 true) from)) from.at from.end result }
 {
@@ -45,30 +43,22 @@ pub fn judge_sets(s: &[u8], at: usize, from: Cursor, brushes: usize, vertices: u
     let mut m = b3d_judge_tally::none();
     loop {
         let found = b3d_chunk_cursor::next_chunk(s, c);
-        match b3d_chunk_next_allowed::next_inside(s, c, found, Tag::MESH, at, q) {
-            Enclosed::End => {
-                return Judged::Accept(m);
-            }
-            Enclosed::Reject(e, p) => {
-                return Judged::Reject(e, p);
-            }
-            Enclosed::Chunk {
+        let Some(
+            Enclosed {
                 at: p,
                 body,
                 next,
                 reached,
                 ..
-            } => match b3d_judge_bodies::judge_triangles(s, p, body, brushes, vertices) {
-                Judged::Reject(e, i) => {
-                    return Judged::Reject(e, i);
-                }
-                Judged::Accept(t) => {
-                    m = b3d_judge_tally::plus(m, t);
-                    q = reached;
-                    c = next;
-                }
             },
-        }
+        ) = b3d_chunk_next_allowed::next_inside(s, c, found, Tag::MESH, at, q)?
+        else {
+            return Ok(m);
+        };
+        let t = b3d_judge_bodies::judge_triangles(s, p, body, brushes, vertices)?;
+        m = b3d_judge_tally::plus(m, t);
+        q = reached;
+        c = next;
     }
 }
 
@@ -90,53 +80,67 @@ fn judge_shape(
     next: Cursor,
     brushes: usize,
     mode: Mode,
-) -> MeshSummary
+) -> Result<(usize, Tally), Refusal>
     requires { Body p body (length s.now) × Among at next (length s.now) × (at + 12 ≤ p) × (body.end ≡ next.at) }
     ensures { Meshes (read_after brushes 0 (read_vertices mode p (left body s.now))
         (rest_in s.now MESH at (reached_at 1 true) next)) at next.end result }
 {
-    match b3d_judge_bodies::judge_vertices(s, p, body, mode) {
-        VerticesSummary::Reject(e, q) => MeshSummary::Reject(e, q),
-        VerticesSummary::Accept(n, words) => match judge_sets(s, at, next, brushes, n) {
-            Judged::Reject(e, q) => MeshSummary::Reject(e, q),
-            Judged::Accept(t) => MeshSummary::Accept(n, mesh_rows(n, words, t)),
-        },
-    }
+    let (n, words) = b3d_judge_bodies::judge_vertices(s, p, body, mode)?;
+    let t = judge_sets(s, at, next, brushes, n)?;
+    Ok((n, mesh_rows(n, words, t)))
 }
 
 // Judges the chunks inside a MESH whose header is at `at`, from the cursor `from` on: its VRTS, then its TRIS. Returns the mesh's vertices and tally, or the
 // first refusal.
-fn judge_inside(s: &[u8], at: usize, from: Cursor, brushes: usize, mode: Mode) -> MeshSummary
+fn judge_inside(
+    s: &[u8],
+    at: usize,
+    from: Cursor,
+    brushes: usize,
+    mode: Mode,
+) -> Result<(usize, Tally), Refusal>
     requires { Among at from (length s.now) × (at + 12 ≤ from.at) }
     ensures { Meshes (read_inside mode brushes 0 (rest_in s.now MESH at start from)) at from.end result }
 {
     let found = b3d_chunk_cursor::next_chunk(s, from);
-    match b3d_chunk_next_allowed::first_inside(s, from, found, Tag::MESH, at) {
-        // No mesh ends here: it owes its VRTS.
-        Enclosed::End => MeshSummary::Accept(0, b3d_judge_tally::none()),
-        Enclosed::Reject(e, p) => MeshSummary::Reject(e, p),
-        Enclosed::Chunk {
+    // No mesh ends here: it owes its VRTS.
+    let Some(
+        Enclosed {
             at: p,
             body,
             next,
             ..
-        } => judge_shape(s, at, p, body, next, brushes, mode),
-    }
+        },
+    ) = b3d_chunk_next_allowed::first_inside(s, from, found, Tag::MESH, at)?
+    else {
+        return Ok((0, b3d_judge_tally::none()));
+    };
+    judge_shape(s, at, p, body, next, brushes, mode)
 }
 
 // Judges the `body` of a MESH whose header is at `at`: its brush id, -1 or below `brushes`, then the chunks inside it. Returns its vertices and tally, or the
 // first refusal.
-pub fn judge_mesh(s: &[u8], at: usize, body: Cursor, brushes: usize, mode: Mode) -> MeshSummary
+pub fn judge_mesh(
+    s: &[u8],
+    at: usize,
+    body: Cursor,
+    brushes: usize,
+    mode: Mode,
+) -> Result<(usize, Tally), Refusal>
     requires { Body at body (length s.now) }
     ensures { Meshes (read_mesh mode brushes at (left body s.now)) at body.end result }
 {
-    match body.number(s) {
-        Number::Cut => MeshSummary::Reject(refusals::CUT_ITEM, body.at),
-        Number::Is(brush, c) => {
-            if !shared_ids::id_valid(brush, brushes, true) {
-                return MeshSummary::Reject(refusals::NO_SUCH_ID, body.at);
-            }
-            judge_inside(s, at, c, brushes, mode)
-        }
+    let Some((brush, c)) = body.number(s) else {
+        return Err(Refusal {
+            number: refusals::CUT_ITEM,
+            place: body.at,
+        });
+    };
+    if !shared_ids::id_valid(brush, brushes, true) {
+        return Err(Refusal {
+            number: refusals::NO_SUCH_ID,
+            place: body.at,
+        });
     }
+    judge_inside(s, at, c, brushes, mode)
 }

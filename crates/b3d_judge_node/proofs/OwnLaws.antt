@@ -1,4 +1,9 @@
 -- A law for each way through `bones_below`, `own_rows`, `judge_parts` and `judge_own`.
+use Rattle.layout.specs.Refused.{refusal_at}
+use Rattle.std.specs.Prelude.{Ok, Err, Some, None}
+use Rattle.std.specs.Prelude as std
+use Rattle.layout.specs.declared.Refusal.{Refusal}
+use Rattle.b3d_chunk_cursor.specs.declared.Named.{Named}
 use mathlib.Core.Path.{◌≡◌, refl, ap, ap₂, sym, subst, ◌∙◌}
 use Prim.Native.Nat.{ℕ, ◌≤◌, ◌+◌, ◌-◌}
 use native.Mathlib.Omega.{arith}
@@ -19,8 +24,6 @@ use Rattle.b3d_spec.specs.Rules.{node_row, own_vertices, bone_limit, animated, b
 use Rattle.b3d_spec.specs.Nesting.{start, inside, reached_at}
 use Rattle.b3d_spec.specs.Parse.{Animation, read_kind, read_animation}
 use Rattle.b3d_chunk_cursor.specs.Chunks.{named_at, NamedIn}
-use Rattle.b3d_chunk_cursor.specs.declared.Named.{Named}
-use Rattle.b3d_chunk_cursor.specs.declared.Named.TheVariants as named
 use Rattle.b3d_chunk_cursor.proofs.NamedLaws.{named-cut, named-any, named-among}
 use Rattle.b3d_judge_tally.proofs.AnswerLaws.{GaveBeside, beside_bad, beside_good}
 use Rattle.b3d_judge_tally.specs.Tally.{head_tally, kind_tally, animation_tally, data_tally, plus, Within}
@@ -31,34 +34,26 @@ use Rattle.b3d_judge_tally.proofs.TallyLaws.{within_more, within-plus, within-he
 use Rattle.b3d_judge_node.specs.Answers.{read_parts, read_own, kinded, kinded_by, KindedIn, Kinds, above_of, owned, OwnedIn, parted, Parted, Owns}
 use Rattle.b3d_judge_tally.specs.Answers.{Onward}
 use Rattle.b3d_judge_animation.specs.Answers.{moved, moved_by, MovedIn, Motions}
-use Rattle.b3d_judge_node.specs.declared.Above.{Above}
-use Rattle.b3d_judge_node.specs.declared.KindSummary.{KindSummary}
-use Rattle.b3d_judge_node.specs.declared.KindSummary.TheVariants as kind
-use Rattle.b3d_judge_animation.specs.declared.Motion.{Motion}
-use Rattle.b3d_judge_animation.specs.declared.Motion.TheVariants as motion
-use Rattle.b3d_judge_node.specs.declared.NodeSummary.{NodeSummary}
-use Rattle.b3d_judge_node.specs.declared.NodeSummary.TheVariants as own
-use Rattle.b3d_judge_node.specs.declared.Above.TheVariants as above
 
 -- ---- what the answers say
 
-kinds-at : (o : Result (Found Kind)) (rest : Cursor → Chunks) (from : Cursor) (k : KindSummary) → Kinds o rest from k → {x : KindSummary} → k ≡ x → kinded_by rest x ≡ kinded o
-kinds-at o rest from k h z = subst (λ (x : KindSummary). kinded_by rest x ≡ kinded o) z h.is
+kinds-at : (o : Result (Found Kind)) (rest : Cursor → Chunks) (from : Cursor) (k : std.Result (ℕ × Tally × Cursor) Refusal) → Kinds o rest from k → {x : (std.Result (ℕ × Tally × Cursor) Refusal)} → k ≡ x → kinded_by rest x ≡ kinded o
+kinds-at o rest from k h z = subst (λ (x : std.Result (ℕ × Tally × Cursor) Refusal). kinded_by rest x ≡ kinded o) z h.is
 
-motions_at : (o : Result (Found Animation)) (rest : Cursor → Chunks) (from : Cursor) (k : Motion) → Motions o rest from k → {x : Motion} → k ≡ x → moved_by rest x ≡ moved o
-motions_at o rest from k h z = subst (λ (x : Motion). moved_by rest x ≡ moved o) z h.is
+motions_at : (o : Result (Found Animation)) (rest : Cursor → Chunks) (from : Cursor) (k : std.Result (Bool × Tally × Cursor) Refusal) → Motions o rest from k → {x : (std.Result (Bool × Tally × Cursor) Refusal)} → k ≡ x → moved_by rest x ≡ moved o
+motions_at o rest from k h z = subst (λ (x : std.Result (Bool × Tally × Cursor) Refusal). moved_by rest x ≡ moved o) z h.is
 
 -- ---- the ways of `bones_below`
 
-module _ (a : Above) (own : ℕ) where
-  pub below_root : a ≡ above.Root → (seen : Bool) → above_of (above.Of own) ≡ bone_limit_from (above_of a) seen own
+module _ (a : std.Option ℕ) (own : ℕ) where
+  pub below_root : a ≡ None → (seen : Bool) → above_of (Some own) ≡ bone_limit_from (above_of a) seen own
   below_root e seen = rw e
 
-  module _ (n : ℕ) (e : a ≡ above.Of n) (seen : Bool) where
-    pub below-own : seen ≡ true → above_of (above.Of own) ≡ bone_limit_from (above_of a) seen own
+  module _ (n : ℕ) (e : a ≡ Some n) (seen : Bool) where
+    pub below-own : seen ≡ true → above_of (Some own) ≡ bone_limit_from (above_of a) seen own
     below-own q = rw (e, q)
 
-    pub below-told : seen ≡ false → above_of (above.Of n) ≡ bone_limit_from (above_of a) seen own
+    pub below-told : seen ≡ false → above_of (Some n) ≡ bone_limit_from (above_of a) seen own
     below-told q = rw (e, q)
 
 pub ruleset below_laws = (below_root, below-own, below-told)
@@ -80,8 +75,8 @@ pub ruleset own-rows_laws = (own-head-small, own-rows-small, own-rows_are)
 -- ---- the ways of `judge_parts`
 
 module _ (mode : Mode) (s : List ℕ) (at : ℕ) (from : Cursor) (g : Among at from (length s)) (far : at + 49 ≤ from.at) (brushes : ℕ) (a : Option ℕ) (bones : ℕ) (eb : bones ≡ bone_limit a)
-    (k : KindSummary) (hk : Kinds (read_kind mode brushes bones (rest_in s NODE at start from)) (rest_in s NODE at (reached_at 2 false)) from k) where
-  abbrev Right-parts : NodeSummary → Type 0
+    (k : std.Result (ℕ × Tally × Cursor) Refusal) (hk : Kinds (read_kind mode brushes bones (rest_in s NODE at start from)) (rest_in s NODE at (reached_at 2 false)) from k) where
+  abbrev Right-parts : std.Result (std.Option ℕ × Tally × Cursor) Refusal → Type 0
   Right-parts x = Parted a (read_parts mode brushes (bone_limit a) (rest_in s NODE at start from)) (rest_in s NODE at (reached_at 3 false)) at from x
 
   -- the moves after a kind
@@ -91,13 +86,13 @@ module _ (mode : Mode) (s : List ℕ) (at : ℕ) (from : Cursor) (g : Among at f
   abbrev go : Result (Found Kind) → Result (Found (Kind × Animation))
   go o = o >>= λ v. made v.value (read_animation no_anim v.rest)
 
-  pub parts-kind-bad : (e q : ℕ) → k ≡ kind.Reject e q → Right-parts (own.Reject e q)
+  pub parts-kind-bad : (e : Refusal) → k ≡ Err e → Right-parts (Err e)
   unfolding read_parts
-  parts-kind-bad e q z =
-      let b = beside_bad own_vertices kind_tally (read_kind mode brushes bones (rest_in s NODE at start from)) e q (kinds-at (read_kind mode brushes bones (rest_in s NODE at start from)) (rest_in s NODE at (reached_at 2 false)) from k hk z) in
+  parts-kind-bad e z =
+      let b = beside_bad own_vertices kind_tally (read_kind mode brushes bones (rest_in s NODE at start from)) e.number e.place (kinds-at (read_kind mode brushes bones (rest_in s NODE at start from)) (rest_in s NODE at (reached_at 2 false)) from k hk z) in
       record { is = rw (← eb, b); within = subst (KindedIn from) z hk.within }
 
-  module _ (have : ℕ) (t : Tally) (c : Cursor) (z : k ≡ kind.Accept have t c) where
+  module _ (have : ℕ) (t : Tally) (c : Cursor) (z : k ≡ Ok (have, t, c)) where
     on : Onward from c t
     on = subst (KindedIn from) z hk.within
 
@@ -118,24 +113,24 @@ module _ (mode : Mode) (s : List ℕ) (at : ℕ) (from : Cursor) (g : Among at f
     pub parts-first-small : Within (plus head_tally t) most_bytes
     parts-first-small = let q = parts-among in within_more (c.at - at) most_bytes first-within (omega (arith, q.room, q.within, g.small))
 
-    module _ (j : Motion) (hj : Motions (read_animation no_anim (rest_in s NODE at (reached_at 2 false) c)) (rest_in s NODE at (reached_at 3 false)) c j) where
-      pub parts-moves-bad : (e q : ℕ) → j ≡ motion.Reject e q → Right-parts (own.Reject e q)
+    module _ (j : std.Result (Bool × Tally × Cursor) Refusal) (hj : Motions (read_animation no_anim (rest_in s NODE at (reached_at 2 false) c)) (rest_in s NODE at (reached_at 3 false)) c j) where
+      pub parts-moves-bad : (e : Refusal) → j ≡ Err e → Right-parts (Err e)
       unfolding read_parts
-      parts-moves-bad e q y =
+      parts-moves-bad e y =
           let o = on in
           let v = gave in
-          let b = beside_bad (λ x. animated x.anim) animation_tally (read_animation no_anim (rest_in s NODE at (reached_at 2 false) c)) e q (motions_at (read_animation no_anim (rest_in s NODE at (reached_at 2 false) c)) (rest_in s NODE at (reached_at 3 false)) c j hj y) in
-          let le : q ≤ c.end = subst (MovedIn c) y hj.within in
+          let b = beside_bad (λ x. animated x.anim) animation_tally (read_animation no_anim (rest_in s NODE at (reached_at 2 false) c)) e.number e.place (motions_at (read_animation no_anim (rest_in s NODE at (reached_at 2 false) c)) (rest_in s NODE at (reached_at 3 false)) c j hj y) in
+          let le : e.place ≤ c.end = subst (MovedIn c) y hj.within in
           record { is = rw (← eb, v.is, b); within = omega (arith, o.same) }
 
-      module _ (seen : Bool) (u : Tally) (d : Cursor) (y : j ≡ motion.Accept seen u d) where
+      module _ (seen : Bool) (u : Tally) (d : Cursor) (y : j ≡ Ok (seen, u, d)) where
         after-moves : Onward c d u
         after-moves = subst (MovedIn c) y hj.within
 
         pub parts-moves-small : Within u most_bytes
         parts-moves-small = let q = parts-among in let m = after-moves in within_more (d.at - c.at) most_bytes m.within (omega (arith, m.room, m.same, q.within, g.small))
 
-        pub parts-good : (x : Tally) → x ≡ plus (plus head_tally t) u → (below : Above) → above_of below ≡ bone_limit_from a seen have → Right-parts (own.Accept below x d)
+        pub parts-good : (x : Tally) → x ≡ plus (plus head_tally t) u → (below : std.Option ℕ) → above_of below ≡ bone_limit_from a seen have → Right-parts (Ok (below, x, d))
         unfolding read_parts
         parts-good x ex below e-below =
             let o = on in
@@ -163,38 +158,38 @@ pub ruleset parts_laws = (parts-kind-bad, parts-among, parts-kind-small, parts-f
 
 -- ---- the ways of `judge_own`
 
-owned_in : (at : ℕ) (n body : Cursor) → n.end ≡ body.end → (k : NodeSummary) → OwnedIn at n k → OwnedIn at body k
-owned_in at n body e (own.Accept b t c) h = subst (λ (z : ℕ). Onward (record { at = at; end = z }) c t × (at + 8 ≤ c.at)) e h
-owned_in at n body e (own.Reject i p) h = rw (← e) h
+owned_in : (at : ℕ) (n body : Cursor) → n.end ≡ body.end → (k : std.Result (std.Option ℕ × Tally × Cursor) Refusal) → OwnedIn at n k → OwnedIn at body k
+owned_in at n body e (Ok (b, t, c)) h = subst (λ (z : ℕ). Onward (record { at = at; end = z }) c t × (at + 8 ≤ c.at)) e h
+owned_in at n body e (Err f) h = rw (← e) h
 
-module _ (s : List ℕ) (at : ℕ) (body : Cursor) (g : Body at body (length s)) (r : Named) (ir : NamedIn body 10 r) (len : ℕ) (v n : Cursor) (w : r ≡ named.Is len v n) where
-  pub own-among : Among at n (length s)
+module _ (s : List ℕ) (at : ℕ) (body : Cursor) (g : Body at body (length s)) (r : std.Option Named) (ir : NamedIn body 10 r) (d : Named) (w : r ≡ Some d) where
+  pub own-among : Among at d.next (length s)
   own-among =
-      let f = named-among body 10 r ir len v n w in
+      let f = named-among body 10 r ir d w in
       record { head = omega (arith, g.head); room = f.to; within = omega (arith, g.within); small = g.small }
 
-  pub own_far : at + 49 ≤ n.at
-  own_far = let f = named-among body 10 r ir len v n w in omega (arith, f.row, f.after, g.head)
+  pub own_far : at + 49 ≤ d.next.at
+  own_far = let f = named-among body 10 r ir d w in omega (arith, f.row, f.after, g.head)
 
-module _ (mode : Mode) (s : List ℕ) (at : ℕ) (body : Cursor) (g : Body at body (length s)) (brushes : ℕ) (a : Option ℕ) (r : Named) (er : r ≡ named_at s body 10) where
+module _ (mode : Mode) (s : List ℕ) (at : ℕ) (body : Cursor) (g : Body at body (length s)) (brushes : ℕ) (a : Option ℕ) (r : std.Option Named) (er : r ≡ named_at s body 10) where
   -- the answers that are right
-  abbrev Right : NodeSummary → Type 0
+  abbrev Right : std.Result (std.Option ℕ × Tally × Cursor) Refusal → Type 0
   Right x = Owns a (read_own mode brushes a at (left body s)) (rest_in s NODE at (reached_at 3 false)) at body x
 
-  pub own-cut : r ≡ named.Cut → Right (own.Reject 5 body.at)
+  pub own-cut : r ≡ None → Right (Err (refusal_at 5 body.at))
   unfolding read_own
   own-cut w = record { is = rw (← g.head, named-cut s body 10 (body-inside s at body g) node_row refl r er w); within = g.room }
 
-  module _ (ir : NamedIn body 10 r) (len : ℕ) (v n : Cursor) (w : r ≡ named.Is len v n) where
+  module _ (ir : NamedIn body 10 r) (d : Named) (w : r ≡ Some d) where
     abbrev data_of : Kind × Animation → Data
-    data_of x = record { name = record { place = body.at; bytes = take len (left body s) }; words = words_of 10 (left v s); kind = x.0; keys = x.1.keys; anim = x.1.anim }
+    data_of x = record { name = record { place = body.at; bytes = take d.length (left body s) }; words = words_of 10 (left d.row s); kind = x.0; keys = x.1.keys; anim = x.1.anim }
 
     abbrev within-name : Result (Found (Kind × Animation)) → Result (Found Data)
     within-name o = o >>= λ x. accept (record { value = data_of x.value; rest = x.rest })
 
-    opened : read_own mode brushes a at (left body s) ≡ within-name (read_parts mode brushes (bone_limit a) (rest_in s NODE at start n))
+    opened : read_own mode brushes a at (left body s) ≡ within-name (read_parts mode brushes (bone_limit a) (rest_in s NODE at start d.next))
     unfolding read_own read_parts inside rest_in
-    opened = rw (← g.head, named-any s body 10 (body-inside s at body g) r er len v n w) (kinds (read_kind mode brushes (bone_limit a) (rest_in s NODE at start n)))
+    opened = rw (← g.head, named-any s body 10 (body-inside s at body g) r er d w) (kinds (read_kind mode brushes (bone_limit a) (rest_in s NODE at start d.next)))
       where
         moves : (k : Kind) (o : Result (Found Animation))
             → (o >>= λ m. accept (record { value = data_of (k, m.value); rest = m.rest })) ≡ within-name (o >>= λ m. accept (record { value = (k, m.value); rest = m.rest }))
@@ -212,12 +207,12 @@ module _ (mode : Mode) (s : List ℕ) (at : ℕ) (body : Cursor) (g : Body at bo
     owned-parted (accept x) = refl
     owned-parted (reject e q) = refl
 
-    pub own-parts : (k : NodeSummary) → Parted a (read_parts mode brushes (bone_limit a) (rest_in s NODE at start n)) (rest_in s NODE at (reached_at 3 false)) at n k → Right k
+    pub own-parts : (k : std.Result (std.Option ℕ × Tally × Cursor) Refusal) → Parted a (read_parts mode brushes (bone_limit a) (rest_in s NODE at start d.next)) (rest_in s NODE at (reached_at 3 false)) at d.next k → Right k
     own-parts k h =
-        let f = named-among body 10 r ir len v n w in
+        let f = named-among body 10 r ir d w in
         record {
-          is = h.is ∙ sym (ap (owned a) opened ∙ owned-parted (read_parts mode brushes (bone_limit a) (rest_in s NODE at start n)));
-          within = owned_in at n body f.same k h.within;
+          is = h.is ∙ sym (ap (owned a) opened ∙ owned-parted (read_parts mode brushes (bone_limit a) (rest_in s NODE at start d.next)));
+          within = owned_in at d.next body f.same k h.within;
         }
 
 pub ruleset own_laws = (own-cut, own-among, own_far, own-parts)

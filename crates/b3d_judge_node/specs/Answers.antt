@@ -1,5 +1,7 @@
 -- A node without the nodes below it, and what is answered of it and of its parts.
-use Rattle.std.specs.Prelude.{◌≡◌, ℕ, ◌≤◌, ◌+◌, List}
+use Rattle.std.specs.Prelude as std
+use Rattle.layout.specs.declared.Refusal.{Refusal}
+use Rattle.std.specs.Prelude.{◌≡◌, ℕ, ◌≤◌, ◌+◌, List, Ok, Err, Some, None}
 use Rattle.std.proofs.Math.Option.{Option, none, some}
 use Rattle.wire.specs.declared.Cursor.{Cursor}
 use Rattle.layout.specs.Result.{Result, accept, reject, ◌>>=◌}
@@ -13,12 +15,6 @@ use Rattle.b3d_spec.specs.Nesting.{inside}
 use Rattle.b3d_spec.specs.Parse.{Animation, read_kind, read_animation}
 use Rattle.b3d_judge_tally.specs.Tally.{plus, head_tally, animation_tally, kind_tally, data_tally}
 use Rattle.b3d_judge_tally.specs.declared.Tally.{Tally}
-use Rattle.b3d_judge_node.specs.declared.KindSummary.{KindSummary}
-use Rattle.b3d_judge_node.specs.declared.KindSummary.TheVariants as kind
-use Rattle.b3d_judge_node.specs.declared.Above.{Above}
-use Rattle.b3d_judge_node.specs.declared.Above.TheVariants as above
-use Rattle.b3d_judge_node.specs.declared.NodeSummary.{NodeSummary}
-use Rattle.b3d_judge_node.specs.declared.NodeSummary.TheVariants as own
 use Rattle.b3d_judge_tally.specs.Answers.{beside, Onward}
 
 -- the chunks cs inside a NODE up to the nodes below it: its kind, whose bones may name `bones` vertices, its KEYS and ANIM, and the chunks that are left
@@ -46,41 +42,41 @@ abbrev pub kinded : Result (Found Kind) → Result (ℕ × Tally × Chunks)
 kinded = beside own_vertices kind_tally
 
 -- what an answer on a kind says: the vertices, the tally, and the chunks from the cursor on by `rest`; or the refusal
-abbrev pub kinded_by : (Cursor → Chunks) → KindSummary → Result (ℕ × Tally × Chunks)
-kinded_by rest (kind.Accept k t c) = accept (k, t, rest c)
-kinded_by rest (kind.Reject n p) = reject n p
+abbrev pub kinded_by : (Cursor → Chunks) → std.Result (ℕ × Tally × Cursor) Refusal → Result (ℕ × Tally × Chunks)
+kinded_by rest (Ok (k, t, c)) = accept (k, t, rest c)
+kinded_by rest (Err e) = reject e.number e.place
 
 -- bounds of an answer from the cursor `from` on: the cursor further on, with a tally of no more bytes than lie between; a refusal's place not past the end
-abbrev pub KindedIn : Cursor → KindSummary → Type 0
-KindedIn from (kind.Accept k t c) = Onward from c t
-KindedIn from (kind.Reject n p) = p ≤ from.end
+abbrev pub KindedIn : Cursor → std.Result (ℕ × Tally × Cursor) Refusal → Type 0
+KindedIn from (Ok (k, t, c)) = Onward from c t
+KindedIn from (Err e) = e.place ≤ from.end
 
 -- r is the answer on the kind o from the cursor `from` on, `rest` giving the chunks from a cursor on
-pub record Kinds (o : Result (Found Kind)) (rest : Cursor → Chunks) (from : Cursor) (r : KindSummary) : Type 0 where
+pub record Kinds (o : Result (Found Kind)) (rest : Cursor → Chunks) (from : Cursor) (r : std.Result (ℕ × Tally × Cursor) Refusal) : Type 0 where
   -- it says what was read, or the refusal
   pub is : kinded_by rest r ≡ kinded o
   -- it keeps its bounds
   pub within : KindedIn from r
 
 -- how many vertices a bone may name by what is above its node, as the definition has it
-abbrev pub above_of : Above → Option ℕ
-above_of above.Root = none
-above_of (above.Of n) = some n
+abbrev pub above_of : std.Option ℕ → Option ℕ
+above_of None = none
+above_of (Some n) = some n
 
 -- a node's data that was read: how many vertices a bone below it may name, its tally and the chunks that are left; or the refusal
 abbrev pub owned : Option ℕ → Result (Found Data) → Result (Option ℕ × Tally × Chunks)
 owned a = beside (bone_limit_below a) data_tally
 
 -- what an answer on a node's data says: the vertices for bones below, the tally, and the chunks from the cursor on by `rest`; or the refusal
-abbrev pub owned_by : (Cursor → Chunks) → NodeSummary → Result (Option ℕ × Tally × Chunks)
-owned_by rest (own.Accept a t c) = accept (above_of a, t, rest c)
-owned_by rest (own.Reject n p) = reject n p
+abbrev pub owned_by : (Cursor → Chunks) → std.Result (std.Option ℕ × Tally × Cursor) Refusal → Result (Option ℕ × Tally × Chunks)
+owned_by rest (Ok (a, t, c)) = accept (above_of a, t, rest c)
+owned_by rest (Err e) = reject e.number e.place
 
 -- bounds of an answer on a node from its header at `at` on: the cursor behind the header, with a tally of no more bytes than lie between; a refusal's place
 -- not past the end
-abbrev pub OwnedIn : ℕ → Cursor → NodeSummary → Type 0
-OwnedIn at body (own.Accept a t c) = Onward (record { at = at; end = body.end }) c t × (at + 8 ≤ c.at)
-OwnedIn at body (own.Reject n p) = p ≤ body.end
+abbrev pub OwnedIn : ℕ → Cursor → std.Result (std.Option ℕ × Tally × Cursor) Refusal → Type 0
+OwnedIn at body (Ok (a, t, c)) = Onward (record { at = at; end = body.end }) c t × (at + 8 ≤ c.at)
+OwnedIn at body (Err e) = e.place ≤ body.end
 
 -- a node's kind with its KEYS and ANIM that were read: how many vertices a bone below it may name, the node's tally and the chunks that are left; or the
 -- refusal
@@ -88,14 +84,16 @@ abbrev pub parted : Option ℕ → Result (Found (Kind × Animation)) → Result
 parted a = beside (λ x. bone_limit_from a (animated x.1.anim) (own_vertices x.0)) (λ x. plus (plus head_tally (kind_tally x.0)) (animation_tally x.1))
 
 -- r is the answer on the kind, KEYS and ANIM o of a node with its header at `at`, from the cursor `from` on, `rest` giving the chunks from a cursor on
-pub record Parted (a : Option ℕ) (o : Result (Found (Kind × Animation))) (rest : Cursor → Chunks) (at : ℕ) (from : Cursor) (r : NodeSummary) : Type 0 where
+pub record Parted (a : Option ℕ) (o : Result (Found (Kind × Animation))) (rest : Cursor → Chunks)
+    (at : ℕ) (from : Cursor) (r : std.Result (std.Option ℕ × Tally × Cursor) Refusal) : Type 0 where
   -- it says what was read, or the refusal
   pub is : owned_by rest r ≡ parted a o
   -- it keeps its bounds
   pub within : OwnedIn at from r
 
 -- r is the answer on the data o of a node with its header at `at` and this body, `rest` giving the chunks from a cursor on
-pub record Owns (a : Option ℕ) (o : Result (Found Data)) (rest : Cursor → Chunks) (at : ℕ) (body : Cursor) (r : NodeSummary) : Type 0 where
+pub record Owns (a : Option ℕ) (o : Result (Found Data)) (rest : Cursor → Chunks)
+    (at : ℕ) (body : Cursor) (r : std.Result (std.Option ℕ × Tally × Cursor) Refusal) : Type 0 where
   -- it says what was read, or the refusal
   pub is : owned_by rest r ≡ owned a o
   -- it keeps its bounds

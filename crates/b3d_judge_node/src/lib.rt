@@ -14,57 +14,33 @@ ghost use Rattle.b3d_judge_node.specs.Answers.{read_parts, read_own, Kinds, Part
 
 use b3d_chunk_cursor::Named;
 use b3d_chunk_next_allowed::Enclosed;
-use b3d_judge_animation::Motion;
-use b3d_judge_mesh::MeshSummary;
-use b3d_judge_tally::{Judged, Tally};
+use b3d_judge_tally::Tally;
 use b3d_spec::{Mode, Tag};
-use layout::refusals;
+use layout::{Refusal, refusals};
 use wire::Cursor;
 
-// How many vertices a node's own mesh has, the tally of its kind, and the cursor after it; or a refusal and its place.
-#[derive(Clone, Copy)]
-pub enum KindSummary {
-    Accept(usize, Tally, Cursor),
-    Reject(u32, usize),
-}
-
-// How many vertices a bone of a node may name (E3), by the nodes above it; `Root`, above which there is none: no vertex.
-#[derive(Clone, Copy)]
-pub enum Above {
-    Root,
-    Of(usize),
-}
-
-// How many vertices a bone below a node may name, the node's own tally, and the cursor at its children; or a refusal and its place.
-#[derive(Clone, Copy)]
-pub enum NodeSummary {
-    Accept(Above, Tally, Cursor),
-    Reject(u32, usize),
-}
-
-// Returns how many vertices a bone of a node may name, `a` being what holds above it: 0 for the root.
-pub fn bone_vertices(a: Above) -> usize
+// Returns how many vertices a bone of a node may name (E3), `a` being what holds by the nodes above it: `None` for the root, above which there is no node, and
+// then 0.
+pub fn bone_vertices(a: Option<usize>) -> usize
     ensures { result ≡ bone_limit (above_of a) }
 {
-    match a {
-        Above::Root => 0,
-        Above::Of(n) => n,
-    }
+    let Some(n) = a else {
+        return 0;
+    };
+    n
 }
 
 // Returns how many vertices a bone below a node may name (E3): the node's `own` if it is the root or has an ANIM (`anim`), else what holds above it, `a`.
-pub fn bones_below(a: Above, anim: bool, own: usize) -> Above
+pub fn bones_below(a: Option<usize>, anim: bool, own: usize) -> Option<usize>
     ensures { above_of result ≡ bone_limit_from (above_of a) anim own }
 {
-    match a {
-        Above::Root => Above::Of(own),
-        Above::Of(n) => {
-            if anim {
-                return Above::Of(own);
-            }
-            Above::Of(n)
-        }
+    let Some(n) = a else {
+        return Some(own);
+    };
+    if anim {
+        return Some(own);
     }
+    Some(n)
 }
 
 // Judges a MESH or a BONE, if it comes first from the cursor `from` on, inside a NODE whose header is at `at`; a bone may name `bones` vertices. Returns the
@@ -76,32 +52,34 @@ fn judge_kind(
     brushes: usize,
     bones: usize,
     mode: Mode,
-) -> KindSummary
+) -> Result<(usize, Tally, Cursor), Refusal>
     requires { Among at from (length s.now) }
     ensures { Kinds (read_kind mode brushes bones (rest_in s.now NODE at start from))
         (rest_in s.now NODE at (reached_at 2 false)) from result }
 {
     let found = b3d_chunk_cursor::next_chunk(s, from);
-    match b3d_chunk_next_allowed::first_inside(s, from, found, Tag::NODE, at) {
-        Enclosed::End => KindSummary::Accept(0, b3d_judge_tally::none(), from),
-        Enclosed::Reject(e, p) => KindSummary::Reject(e, p),
-        Enclosed::Chunk {
+    let Some(
+        Enclosed {
             tag,
             at: p,
             body,
             next,
             ..
-        } => match tag {
-            Tag::MESH => match b3d_judge_mesh::judge_mesh(s, p, body, brushes, mode) {
-                MeshSummary::Reject(e, q) => KindSummary::Reject(e, q),
-                MeshSummary::Accept(own, t) => KindSummary::Accept(own, t, next),
-            },
-            Tag::BONE => match b3d_judge_bodies::judge_bone(s, p, body, bones) {
-                Judged::Reject(e, q) => KindSummary::Reject(e, q),
-                Judged::Accept(t) => KindSummary::Accept(0, t, next),
-            },
-            _ => KindSummary::Accept(0, b3d_judge_tally::none(), from),
         },
+    ) = b3d_chunk_next_allowed::first_inside(s, from, found, Tag::NODE, at)?
+    else {
+        return Ok((0, b3d_judge_tally::none(), from));
+    };
+    match tag {
+        Tag::MESH => {
+            let (own, t) = b3d_judge_mesh::judge_mesh(s, p, body, brushes, mode)?;
+            Ok((own, t, next))
+        }
+        Tag::BONE => {
+            let t = b3d_judge_bodies::judge_bone(s, p, body, bones)?;
+            Ok((0, t, next))
+        }
+        _ => Ok((0, b3d_judge_tally::none(), from)),
     }
 }
 
@@ -120,24 +98,16 @@ fn judge_parts(
     at: usize,
     from: Cursor,
     brushes: usize,
-    above: Above,
+    above: Option<usize>,
     mode: Mode,
-) -> NodeSummary
+) -> Result<(Option<usize>, Tally, Cursor), Refusal>
     requires { Among at from (length s.now) × (at + 49 ≤ from.at) }
     ensures { Parted (above_of above) (read_parts mode brushes (bone_limit (above_of above)) (rest_in s.now NODE at start from))
         (rest_in s.now NODE at (reached_at 3 false)) at from result }
 {
-    match judge_kind(s, at, from, brushes, bone_vertices(above), mode) {
-        KindSummary::Reject(e, q) => NodeSummary::Reject(e, q),
-        KindSummary::Accept(own, k, c) => match b3d_judge_animation::judge_animation(s, at, c) {
-            Motion::Reject(e, q) => NodeSummary::Reject(e, q),
-            Motion::Accept(anim, m, d) => NodeSummary::Accept(
-                bones_below(above, anim, own),
-                own_rows(k, m),
-                d,
-            ),
-        },
-    }
+    let (own, k, c) = judge_kind(s, at, from, brushes, bone_vertices(above), mode)?;
+    let (anim, m, d) = b3d_judge_animation::judge_animation(s, at, c)?;
+    Ok((bones_below(above, anim, own), own_rows(k, m), d))
 }
 
 // Judges the `body` of a NODE whose header is at `at`, without the nodes below it; `above` is what holds for its bones. Returns what holds for bones below
@@ -147,15 +117,18 @@ pub fn judge_own(
     at: usize,
     body: Cursor,
     brushes: usize,
-    above: Above,
+    above: Option<usize>,
     mode: Mode,
-) -> NodeSummary
+) -> Result<(Option<usize>, Tally, Cursor), Refusal>
     requires { Body at body (length s.now) }
     ensures { Owns (above_of above) (read_own mode brushes (above_of above) at (left body s.now))
         (rest_in s.now NODE at (reached_at 3 false)) at body result }
 {
-    match b3d_chunk_cursor::named_row(s, body, 10) {
-        Named::Cut => NodeSummary::Reject(refusals::CUT_ITEM, body.at),
-        Named::Is { next, .. } => judge_parts(s, at, next, brushes, above, mode),
-    }
+    let Some(Named { next, .. }) = b3d_chunk_cursor::named_row(s, body, 10) else {
+        return Err(Refusal {
+            number: refusals::CUT_ITEM,
+            place: body.at,
+        });
+    };
+    judge_parts(s, at, next, brushes, above, mode)
 }

@@ -12,11 +12,10 @@ ghost use Rattle.b3d_judge_tally.specs.Answers.{Judges};
 ghost use Rattle.b3d_judge_node.specs.Answers.{above_of};
 
 use b3d_chunk_next_allowed::Enclosed;
-use b3d_judge_node::{Above, NodeSummary};
-use b3d_judge_tally::Judged;
+use b3d_judge_tally::Tally;
 use b3d_rule_nesting_order::Reached;
 use b3d_spec::{Mode, Tag};
-use layout::refusals;
+use layout::{Refusal, refusals};
 use wire::Cursor;
 
 // How far the chunks inside a NODE have come after its KEYS and ANIM.
@@ -34,30 +33,21 @@ pub fn judge_node(
     body: Cursor,
     levels: u32,
     brushes: usize,
-    above: Above,
+    above: Option<usize>,
     mode: Mode,
-) -> Judged
+) -> Result<Tally, Refusal>
     requires { Body at body (length s.now) }
     ensures { Judges inner_tally (read_node mode levels brushes (above_of above) at (left body s.now)) at body.end result }
 {
     if levels == 0 {
-        return Judged::Reject(refusals::TOO_DEEP, at);
+        return Err(Refusal {
+            number: refusals::TOO_DEEP,
+            place: at,
+        });
     }
-    match b3d_judge_node::judge_own(s, at, body, brushes, above, mode) {
-        NodeSummary::Reject(e, p) => Judged::Reject(e, p),
-        NodeSummary::Accept(below, t, c) => match judge_nodes(
-            s,
-            at,
-            c,
-            levels - 1,
-            brushes,
-            below,
-            mode,
-        ) {
-            Judged::Reject(e, p) => Judged::Reject(e, p),
-            Judged::Accept(f) => Judged::Accept(b3d_judge_tally::plus(t, f)),
-        },
-    }
+    let (below, t, c) = b3d_judge_node::judge_own(s, at, body, brushes, above, mode)?;
+    let f = judge_nodes(s, at, c, levels - 1, brushes, below, mode)?;
+    Ok(b3d_judge_tally::plus(t, f))
 }
 
 // Judges the NODE chunks from the cursor `from` to the end of the NODE whose header is at `at`, with `levels` levels left; `above` is what holds for their
@@ -69,9 +59,9 @@ pub fn judge_nodes(
     from: Cursor,
     levels: u32,
     brushes: usize,
-    above: Above,
+    above: Option<usize>,
     mode: Mode,
-) -> Judged
+) -> Result<Tally, Refusal>
     requires { Among at from (length s.now) }
     ensures { Judges forest_tally (read_nodes (read_node mode levels brushes (above_of above)) (rest_in s.now NODE at (reached_at 3 false) from))
         from.at from.end result }
@@ -81,29 +71,21 @@ pub fn judge_nodes(
     let mut m = b3d_judge_tally::none();
     loop {
         let found = b3d_chunk_cursor::next_chunk(s, c);
-        match b3d_chunk_next_allowed::next_inside(s, c, found, Tag::NODE, at, q) {
-            Enclosed::End => {
-                return Judged::Accept(m);
-            }
-            Enclosed::Reject(e, p) => {
-                return Judged::Reject(e, p);
-            }
-            Enclosed::Chunk {
+        let Some(
+            Enclosed {
                 at: p,
                 body,
                 next,
                 reached,
                 ..
-            } => match judge_node(s, p, body, levels, brushes, above, mode) {
-                Judged::Reject(e, i) => {
-                    return Judged::Reject(e, i);
-                }
-                Judged::Accept(t) => {
-                    m = b3d_judge_tally::plus(m, t);
-                    q = reached;
-                    c = next;
-                }
             },
-        }
+        ) = b3d_chunk_next_allowed::next_inside(s, c, found, Tag::NODE, at, q)?
+        else {
+            return Ok(m);
+        };
+        let t = judge_node(s, p, body, levels, brushes, above, mode)?;
+        m = b3d_judge_tally::plus(m, t);
+        q = reached;
+        c = next;
     }
 }

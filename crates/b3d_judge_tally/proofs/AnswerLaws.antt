@@ -1,11 +1,12 @@
 -- What an answer says of the definition's value: a refusal is its refusal, and a tally is that of what it gave.
+use Rattle.std.specs.Prelude.{Ok, Err}
+use Rattle.layout.specs.declared.Refusal.{Refusal}
 use mathlib.Core.Path.{◌≡◌, refl, ap, sym}
 use Prim.Native.Nat.{ℕ, ◌≤◌, ◌-◌}
 use native.Mathlib.Omega.{arith}
 use Rattle.layout.specs.Result.{Result, accept, reject}
 use Rattle.b3d_judge_tally.specs.Answers.{judged, beside, Onward}
 use Rattle.b3d_judge_tally.specs.declared.Tally.{Tally}
-use Rattle.b3d_judge_tally.specs.declared.Judged.TheVariants as judge
 use Rattle.wire.specs.declared.Cursor.{Cursor}
 use Rattle.layout.proofs.ResultLaws.{got_inj}
 use Rattle.b3d_spec.specs.Tags.{Chunks, Found}
@@ -19,11 +20,11 @@ pub record Gave {A : Type 0} (tally : A → Tally) (o : Result A) (t : Tally) : 
   pub has : t ≡ tally value
 
 module _ {A : Type 0} (tally : A → Tally) where
-  pub judged_bad : (o : Result A) (e q : ℕ) → judged tally o ≡ judge.Reject e q → o ≡ reject e q
-  judged_bad (accept a) e q h = let z : ◌≡◌ {A = ℕ} 0 1 = cc in absurd (omega arith)
-  judged_bad (reject n p) e q h = cc
+  pub judged_bad : (o : Result A) (e : Refusal) → judged tally o ≡ Err e → o ≡ reject e.number e.place
+  judged_bad (accept a) e h = let z : ◌≡◌ {A = ℕ} 0 1 = cc in absurd (omega arith)
+  judged_bad (reject n p) e h = cc
 
-  pub judged_good : (o : Result A) (t : Tally) → judged tally o ≡ judge.Accept t → Gave tally o t
+  pub judged_good : (o : Result A) (t : Tally) → judged tally o ≡ Ok t → Gave tally o t
   judged_good (accept a) t h = record { value = a; is = refl; has = cc }
   judged_good (reject n p) t h = let z : ◌≡◌ {A = ℕ} 0 1 = cc in absurd (omega arith)
 

@@ -24,13 +24,6 @@ pub struct Tally {
     pub copy: usize,
 }
 
-// What a part of a file adds, or a refusal with its place.
-#[derive(Clone, Copy)]
-pub enum Judged {
-    Accept(Tally),
-    Reject(u32, usize),
-}
-
 // Returns a tally of 0 rows and 0 bytes.
 pub fn none() -> Tally
     ensures { result ≡ no_tally }

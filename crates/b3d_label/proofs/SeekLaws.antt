@@ -1,4 +1,7 @@
 -- A chunk looked for: what the answer of `seek` says of the walk.
+use Rattle.std.specs.Prelude.{Some, None}
+use Rattle.std.specs.Prelude as std
+use Rattle.b3d_chunk_walk.specs.declared.Sought.{Sought}
 use Prim.Native.Nat.{ℕ, ◌+◌}
 use native.Mathlib.Omega.{arith}
 use mathlib.Core.Path.{◌≡◌, refl, sym, ◌∙◌}
@@ -11,8 +14,6 @@ use Rattle.layout.proofs.ResultLaws.{if_yes, if_no, by_test}
 use Rattle.b3d_spec.specs.declared.Tag.{Tag}
 use Rattle.b3d_spec.specs.Tags.{Chunks, code, is}
 use Rattle.b3d_chunk_walk.specs.Seeks.{seek_of, ahead, Seeks}
-use Rattle.b3d_chunk_walk.specs.declared.Sought.{Sought}
-use Rattle.b3d_chunk_walk.specs.declared.Sought.TheVariants as sought
 use Rattle.b3d_chunk_walk.proofs.SeekLaws.{sought_none, sought_is, sought_among}
 use Rattle.b3d_label_spec.specs.Walk.{Refused, first_with}
 
@@ -34,9 +35,9 @@ first_is k (chunk t p b r) q c l e =
     (λ y. let z = sym (if_yes (is t k) (chunk k p b r) (seek_of k r) y) ∙ e in if_yes (is t k) _ _ y ∙ cc)
     (λ y. if_no (is t k) _ _ y ∙ first_is k r q c l (sym (if_no (is t k) (chunk k p b r) (seek_of k r) y) ∙ e))
 
-module _ (s : List ℕ) (c : Cursor) (k : Tag) (r : Sought) (x : Seeks s c k r) where
-  pub first-not : r ≡ sought.Nothing → Refused (first_with (code k) (ahead s c))
+module _ (s : List ℕ) (c : Cursor) (k : Tag) (r : std.Option Sought) (x : Seeks s c k r) where
+  pub first-not : r ≡ None → Refused (first_with (code k) (ahead s c))
   first-not w = first-none k (ahead s c) (sought_none s c k r x w)
 
-  pub first_found : (p : ℕ) (b n : Cursor) → r ≡ sought.Found p b n → first_with (code k) (ahead s c) ≡ accept (b.at, left b s)
-  first_found p b n w = let f = sought_among s c k r x p b n w in first_is k (ahead s c) p (left b s) (ahead s n) (sought_is s c k r x p b n w) ∙ rw f.body
+  pub first_found : (g : Sought) → r ≡ Some g → first_with (code k) (ahead s c) ≡ accept (g.body.at, left g.body s)
+  first_found g w = let f = sought_among s c k r x g w in first_is k (ahead s c) g.at (left g.body s) (ahead s g.next) (sought_is s c k r x g w) ∙ rw f.body

@@ -1,4 +1,9 @@
 -- What each step of `vrts_vertices`, `mesh_vertices` and `root_vertices` says of the vertices.
+use Rattle.std.specs.Prelude.{Ok, Err, Some, None}
+use Rattle.std.specs.Prelude as std
+use Rattle.layout.specs.declared.Refusal.{Refusal}
+use Rattle.std.specs.Result.{result_ok}
+use Rattle.b3d_chunk_walk.specs.declared.Sought.{Sought}
 use Prim.Native.Nat.{ℕ, ◌+◌, ◌-◌, ◌<◌, ◌≤◌}
 use native.Mathlib.Omega.{arith}
 use mathlib.Core.Path.{◌≡◌, refl, ap, sym, ◌∙◌}
@@ -10,8 +15,6 @@ use Rattle.wire.specs.Bytes.{word_at}
 use Rattle.wire.specs.Test.{if}
 use Rattle.wire.specs.Cursors.{Inside, left, number_at}
 use Rattle.wire.specs.declared.Cursor.{Cursor}
-use Rattle.wire.specs.declared.Number.{Number}
-use Rattle.wire.specs.declared.Number.TheVariants as number
 use Rattle.wire.proofs.AnswerLaws.{number-inside}
 use Rattle.wire.proofs.LeftLaws.{span, left-length, left-drop}
 use Rattle.layout.specs.Result.{Result, accept, reject, check, ◌>>=◌}
@@ -23,19 +26,13 @@ use Rattle.b3d_spec.specs.Tags.{code, split}
 use Rattle.b3d_spec.specs.Rules.{vertices_head, vertex_words}
 use Rattle.b3d_chunk_cursor.specs.Chunks.{NextIs}
 use Rattle.b3d_judge_items.specs.Items.{divided_at}
-use Rattle.b3d_judge_items.specs.declared.Counted.{Counted}
-use Rattle.b3d_judge_items.specs.declared.Counted.TheVariants as counts
 use Rattle.b3d_chunk_cursor.specs.declared.Next.{Next}
 use Rattle.b3d_chunk_cursor.specs.declared.Next.TheVariants as next
 use Rattle.b3d_chunk_cursor.proofs.NextLaws.{chunk-is, chunk-among, body-inside, cut-is, done-is}
 use Rattle.b3d_chunk_walk.specs.Seeks.{Seeks}
-use Rattle.b3d_chunk_walk.specs.declared.Sought.{Sought}
-use Rattle.b3d_chunk_walk.specs.declared.Sought.TheVariants as sought
 use Rattle.b3d_chunk_walk.proofs.SeekLaws.{sought_body}
 use Rattle.b3d_label_spec.specs.Walk.{vrts_vertices, mesh_vertices, root_vertices}
 use Rattle.b3d_label.specs.Answers.{many_says, on_label}
-use Rattle.b3d_label.specs.declared.Many.{Many}
-use Rattle.b3d_label.specs.declared.Many.TheVariants as many
 use Rattle.b3d_label.proofs.HeadLaws.{one-cut, one_got}
 use Rattle.b3d_label.proofs.SeekLaws.{first-not, first_found}
 
@@ -46,20 +43,20 @@ abbrev after : Cursor → Cursor
 after b = span (b.at + 12) b.end
 
 -- how many items, if they were counted
-abbrev says_counted : Counted → Result ℕ
-says_counted (counts.Accept k) = accept k
-says_counted (counts.Reject n p) = reject 14 0
+abbrev says_counted : std.Result ℕ Refusal → Result ℕ
+says_counted (Ok k) = accept k
+says_counted (Err e) = reject 14 0
 
-many-counted : (t : Bool) (k n p : ℕ) → on_label (check t 14 0 >>= λ _. accept k) ≡ says_counted (if t (counts.Accept k) (counts.Reject n p))
+many-counted : (t : Bool) (n : Refusal) (k : ℕ) → on_label (check t 14 0 >>= λ _. accept k) ≡ says_counted (if t (Ok k) (Err n))
 unfolding check if
-many-counted true k n p = refl
-many-counted false k n p = refl
+many-counted true k n = refl
+many-counted false k n = refl
 
 module _ (s : List ℕ) (b : Cursor) (i : Inside b (length s)) where
-  abbrev Right : Many → Type 0
+  abbrev Right : std.Option ℕ → Type 0
   Right m = many_says m ≡ on_label (vrts_vertices b.at (left b s))
 
-  pub vrts_cut : b.end - b.at < 12 → Right many.Reject
+  pub vrts_cut : b.end - b.at < 12 → Right None
   unfolding vrts_vertices
   vrts_cut h = rw (row-short vertices_head b.at (left b s) (omega (arith, left-length s b i)))
 
@@ -73,67 +70,68 @@ module _ (s : List ℕ) (b : Cursor) (i : Inside b (length s)) where
         ≡ judged vertices_head b.at (flags ∷ sets ∷ size ∷ []) (record { value = flags ∷ sets ∷ size ∷ []; place = b.at + 12; left = left (after b) s })
     head = rw (left-drop s b 12 (after b) refl refl, ← three) (row-enough vertices_head b.at (left b s) (omega (arith, left-length s b i)))
 
-    pub vrts_flags : 3 < flags → Right many.Reject
+    pub vrts_flags : 3 < flags → Right None
     unfolding vrts_vertices judged check
     vrts_flags o = rw (head, lt-leb _ _ o)
 
     module _ (f3 : flags ≤ 3) where
-      pub vrts_sets : 8 < sets → Right many.Reject
+      pub vrts_sets : 8 < sets → Right None
       unfolding vrts_vertices judged check
       vrts_sets o = rw (head, le-leb _ _ f3, lt-leb _ _ o)
 
       module _ (s8 : sets ≤ 8) where
-        pub vrts_size : 4 < size → Right many.Reject
+        pub vrts_size : 4 < size → Right None
         unfolding vrts_vertices judged check
         vrts_size o = rw (head, le-leb _ _ f3, le-leb _ _ s8, lt-leb _ _ o)
 
-        module _ (s4 : size ≤ 4) (words : ℕ) (v : words ≡ vertex_words flags sets size) (x : Counted) (y : x ≡ divided_at (after b) words) where
+        module _ (s4 : size ≤ 4) (words : ℕ) (v : words ≡ vertex_words flags sets size) (x : std.Result ℕ Refusal) (y : x ≡ divided_at (after b) words) where
           whole : row vertices_head b.at (left b s) ≡ accept (record { value = flags ∷ sets ∷ size ∷ []; place = b.at + 12; left = left (after b) s })
           unfolding judged check
           whole = rw (head, le-leb _ _ f3, le-leb _ _ s8, le-leb _ _ s4)
 
           counted : on_label (vrts_vertices b.at (left b s)) ≡ says_counted x
           unfolding vrts_vertices divided_at
-          counted = rw (whole, ← v, left-length s (after b) (record { before = omega arith; within = i.within }), y) (many-counted _ _ _ _)
+          counted = rw (whole, ← v, left-length s (after b) (record { before = omega arith; within = i.within }), y) (many-counted _ _ _)
 
-          pub vrts_bad : (n p : ℕ) → x ≡ counts.Reject n p → Right many.Reject
-          vrts_bad n p q = sym (counted ∙ ap says_counted q)
-
-          pub vrts_all : (k : ℕ) → x ≡ counts.Accept k → Right (many.Accept k)
-          vrts_all k q = sym (counted ∙ ap says_counted q)
+          pub vrts_told : (m : std.Option ℕ) → m ≡ result_ok x → Right m
+          vrts_told m q = go x refl
+            where
+              go : (z : std.Result ℕ Refusal) → x ≡ z → Right m
+              go (Ok k) e = ap many_says (q ∙ ap result_ok e) ∙ sym (counted ∙ ap says_counted e)
+              go (Err f) e = ap many_says (q ∙ ap result_ok e) ∙ sym (counted ∙ ap says_counted e)
 
 -- ---- MESH
 
-module _ (s : List ℕ) (b : Cursor) (i : Inside b (length s)) (r : Number) (e : r ≡ number_at s b) where
-  abbrev MeshRight : Many → Type 0
+module _ (s : List ℕ) (b : Cursor) (i : Inside b (length s)) (r : std.Option (ℕ × Cursor)) (e : r ≡ number_at s b) where
+  abbrev MeshRight : std.Option ℕ → Type 0
   MeshRight m = many_says m ≡ on_label (mesh_vertices b.at (left b s))
 
-  pub mesh-cut : r ≡ number.Cut → MeshRight many.Reject
+  pub mesh-cut : r ≡ None → MeshRight None
   unfolding mesh_vertices
   mesh-cut w = rw (one-cut s b i r e w)
 
-  module _ (k : ℕ) (c : Cursor) (w : r ≡ number.Is k c) (x : Sought) (y : Seeks s c VRTS x) where
-    pub mesh-none : x ≡ sought.Nothing → MeshRight many.Reject
+  module _ (k : ℕ) (c : Cursor) (w : r ≡ Some (k, c)) (x : std.Option Sought) (y : Seeks s c VRTS x) where
+    pub mesh-none : x ≡ None → MeshRight None
     unfolding mesh_vertices
     mesh-none q = rw (one_got s b i r e k c w, (first-not s c VRTS x y q).2)
 
-    pub mesh-some : (p : ℕ) (v n : Cursor) → x ≡ sought.Found p v n → (m : Many) → many_says m ≡ on_label (vrts_vertices v.at (left v s)) → MeshRight m
+    pub mesh-some : (f : Sought) → x ≡ Some f → (m : std.Option ℕ) → many_says m ≡ on_label (vrts_vertices f.body.at (left f.body s)) → MeshRight m
     unfolding mesh_vertices
-    mesh-some p v n q m h = h ∙ rw (one_got s b i r e k c w, first_found s c VRTS x y p v n q)
+    mesh-some f q m h = h ∙ rw (one_got s b i r e k c w, first_found s c VRTS x y f q)
 
 pub ruleset mesh_laws = (number-inside, mesh-cut, mesh-none, sought_body, mesh-some)
 
 -- ---- the first known chunk of a root
 
 module _ (s : List ℕ) (c : Cursor) (r : Next) (x : NextIs s c r) where
-  abbrev RootRight : Many → Type 0
+  abbrev RootRight : std.Option ℕ → Type 0
   RootRight m = many_says m ≡ on_label (root_vertices (split c.at (left c s)))
 
-  pub root-done : r ≡ next.Done → RootRight (many.Accept 0)
+  pub root-done : r ≡ next.Done → RootRight (Some 0)
   unfolding root_vertices
   root-done w = rw (done-is s c r x w)
 
-  pub root-cut : (p : ℕ) → r ≡ next.Cut p → RootRight many.Reject
+  pub root-cut : (p : ℕ) → r ≡ next.Cut p → RootRight None
   unfolding root_vertices
   root-cut p w = rw (cut-is s c r x p w)
 
@@ -142,11 +140,11 @@ module _ (s : List ℕ) (c : Cursor) (r : Next) (x : NextIs s c r) where
     root-inside i = body-inside s c r x t p b n w (length s) i
 
     module _ (k : ℕ) (e : k ≡ code t) where
-      pub root-mesh : k ≡ code MESH → (m : Many) → many_says m ≡ on_label (mesh_vertices b.at (left b s)) → RootRight m
+      pub root-mesh : k ≡ code MESH → (m : std.Option ℕ) → many_says m ≡ on_label (mesh_vertices b.at (left b s)) → RootRight m
       unfolding root_vertices if
       root-mesh q m h = let f = chunk-among s c r x t p b n w in h ∙ rw (chunk-is s c r x t p b n w, ← e, q, f.body)
 
-      pub root-other : (k ≡ code MESH → ⊥) → RootRight (many.Accept 0)
+      pub root-other : (k ≡ code MESH → ⊥) → RootRight (Some 0)
       unfolding root_vertices if
       root-other q = rw (chunk-is s c r x t p b n w, ← e, ne_eqb k (code MESH) q)
 

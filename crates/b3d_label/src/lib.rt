@@ -10,79 +10,64 @@ ghost use Rattle.b3d_label.specs.Answers.{many_says, on_label, Labels};
 
 use b3d_chunk_cursor::{Named, Next};
 use b3d_chunk_walk::Sought;
-use b3d_judge_items::Counted;
 use b3d_label_spec::TrayLabel;
 use b3d_spec::{HIGHEST_VERTEX_FLAGS, LARGEST_SET, MOST_SETS, Tag, letters};
 use layout::refusals;
-use wire::{Cursor, Header, Number};
+use wire::{Cursor, Header};
 
-// How many vertices there are, or that the walk is refused.
-#[derive(Clone, Copy)]
-pub enum Many {
-    Accept(usize),
-    Reject,
-}
-
-// Returns how many vertices the VRTS with this `body` has; `Not` if its fixed data is cut or out of range, or its items do not fill it.
-fn vrts_vertices(s: &[u8], body: Cursor) -> Many
+// Returns how many vertices the VRTS with this `body` has; `None` if its fixed data is cut or out of range, or its items do not fill it.
+fn vrts_vertices(s: &[u8], body: Cursor) -> Option<usize>
     requires { Inside body (length s.now) }
     ensures { many_says result ≡ on_label (vrts_vertices body.at (left body s.now)) }
 {
     let start = body.at;
     let end = body.end;
     if end - start < 12 {
-        return Many::Reject;
+        return None;
     }
     let flags = wire::number_at(s, start);
     let sets = wire::number_at(s, start + 4);
     let size = wire::number_at(s, start + 8);
     if HIGHEST_VERTEX_FLAGS < flags {
-        return Many::Reject;
+        return None;
     }
     if MOST_SETS < sets {
-        return Many::Reject;
+        return None;
     }
     if LARGEST_SET < size {
-        return Many::Reject;
+        return None;
     }
     let words = b3d_rule_widths::vertex_words(flags, sets, size);
     let items = Cursor {
         at: start + 12,
         end,
     };
-    match b3d_judge_items::whole_items(items, words) {
-        Counted::Reject(_, _) => Many::Reject,
-        Counted::Accept(count) => Many::Accept(count),
-    }
+    b3d_judge_items::whole_items(items, words).ok()
 }
 
-// Returns how many vertices the first VRTS of the MESH with this `body` has; `Not` if there is none or the walk is refused.
-fn mesh_vertices(s: &[u8], body: Cursor) -> Many
+// Returns how many vertices the first VRTS of the MESH with this `body` has; `None` if there is none or the walk is refused.
+fn mesh_vertices(s: &[u8], body: Cursor) -> Option<usize>
     requires { Inside body (length s.now) }
     ensures { many_says result ≡ on_label (mesh_vertices body.at (left body s.now)) }
 {
-    match body.number(s) {
-        Number::Cut => Many::Reject,
-        Number::Is(_, inside) => match b3d_chunk_walk::seek(s, inside, Tag::VRTS) {
-            Sought::Nothing => Many::Reject,
-            Sought::Found { body: vrts, .. } => vrts_vertices(s, vrts),
-        },
-    }
+    let (_, inside) = body.number(s)?;
+    let chunk = b3d_chunk_walk::seek(s, inside, Tag::VRTS)?;
+    vrts_vertices(s, chunk.body)
 }
 
 // Returns how many vertices the mesh of a root has, `from` standing after its fixed data; 0 if its first known chunk is no MESH.
-fn root_vertices(s: &[u8], from: Cursor) -> Many
+fn root_vertices(s: &[u8], from: Cursor) -> Option<usize>
     requires { Inside from (length s.now) }
     ensures { many_says result ≡ on_label (root_vertices (split from.at (left from s.now))) }
 {
     match b3d_chunk_cursor::next_chunk(s, from) {
-        Next::Done => Many::Accept(0),
-        Next::Cut(_) => Many::Reject,
+        Next::Done => Some(0),
+        Next::Cut(_) => None,
         Next::Chunk { tag, body, .. } => {
             if b3d_chunk_cursor::letters(tag) == letters::MESH {
                 return mesh_vertices(s, body);
             }
-            Many::Accept(0)
+            Some(0)
         }
     }
 }
@@ -105,18 +90,18 @@ fn root_label(s: &[u8], body: Cursor) -> TrayLabel
     requires { Inside body (length s.now) }
     ensures { Labels (root_in body.at (left body s.now)) (length s.now) result }
 {
-    match b3d_chunk_cursor::named_row(s, body, 10) {
-        Named::Cut => refused(),
-        Named::Is { length, next, .. } => match root_vertices(s, next) {
-            Many::Reject => refused(),
-            Many::Accept(vertices) => TrayLabel {
-                number: 0,
-                place: 0,
-                name_place: body.at,
-                name_length: length,
-                vertices,
-            },
-        },
+    let Some(Named { length, next, .. }) = b3d_chunk_cursor::named_row(s, body, 10) else {
+        return refused();
+    };
+    let Some(vertices) = root_vertices(s, next) else {
+        return refused();
+    };
+    TrayLabel {
+        number: 0,
+        place: 0,
+        name_place: body.at,
+        name_length: length,
+        vertices,
     }
 }
 
@@ -125,13 +110,13 @@ fn file_label(s: &[u8], body: Cursor) -> TrayLabel
     requires { Inside body (length s.now) }
     ensures { Labels (file_in body.at (left body s.now)) (length s.now) result }
 {
-    match body.number(s) {
-        Number::Cut => refused(),
-        Number::Is(_, inside) => match b3d_chunk_walk::seek(s, inside, Tag::NODE) {
-            Sought::Nothing => refused(),
-            Sought::Found { body: root, .. } => root_label(s, root),
-        },
-    }
+    let Some((_, inside)) = body.number(s) else {
+        return refused();
+    };
+    let Some(Sought { body: root, .. }) = b3d_chunk_walk::seek(s, inside, Tag::NODE) else {
+        return refused();
+    };
+    root_label(s, root)
 }
 
 // Returns the label of `file`: the place and length of the root's name, which lies in the file, and the vertices; or 14.

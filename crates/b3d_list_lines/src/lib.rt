@@ -58,10 +58,8 @@ pub fn put_names(file: &[u8], rows: &[u32], nodes: usize, out: &mut [u8], at: us
     ensures { Puts (row_lines file.now rows.now nodes) out.old at out.new result }
 {
     let mut next = at;
-    let mut i = 0;
-    while i < nodes {
+    for i in 0..nodes {
         next = put_name(file, rows, i, out, next);
-        i += 1;
     }
     next
 }

@@ -1,4 +1,7 @@
 -- A law for each way through `put_listing`.
+use Rattle.std.specs.Prelude.{Ok, Err}
+use Rattle.std.specs.Prelude as std
+use Rattle.layout.specs.declared.Refusal.{Refusal}
 use mathlib.Core.Path.{◌≡◌, ap, ap₂, sym, ◌∙◌}
 use Prim.Native.Nat.{ℕ, ◌<◌, ◌≤◌}
 use mathlib.Core.List.{List, [], ◌∷◌, ◌++◌, append_assoc}
@@ -10,8 +13,6 @@ use Rattle.b3d_spec.specs.Scene.{Scene}
 use Rattle.b3d_spec.specs.Tables.{counts, tables, node_tables}
 use Rattle.b3d_judge.specs.Answers.{verdict_of}
 use Rattle.b3d_judge_file_body.specs.declared.Summary.{Summary}
-use Rattle.b3d_judge_file_body.specs.declared.Verdict.{Verdict}
-use Rattle.b3d_judge_file_body.specs.declared.Verdict.TheVariants as verdict
 use Rattle.b3d_judge_limits.specs.Rooms.{counts_in}
 use Rattle.b3d_judge.proofs.VerdictLaws.{summary_of, Good, was-bad, was-good}
 use Rattle.b3d_list_text.specs.Puts.{Puts}
@@ -30,12 +31,12 @@ module _ (s xs ys : List ℕ) (p : ℕ) where
   pub listing-long : 65536 < length s → Puts (number_line (1 ∷ 0 ∷ [])) xs 0 ys p → Puts (listing s) xs 0 ys p
   listing-long h k = rw (listing-over s h) k
 
-  module _ (h : length s ≤ 65536) (v : Verdict) (ev : v ≡ verdict_of (judge Strict s)) where
-    pub listing-bad : (n q : ℕ) → v ≡ verdict.Reject n q → (k : ℕ) → k ≡ n → Puts (number_line (k ∷ q ∷ [])) xs 0 ys p → Puts (listing s) xs 0 ys p
+  module _ (h : length s ≤ 65536) (v : std.Result Summary Refusal) (ev : v ≡ verdict_of (judge Strict s)) where
+    pub listing-bad : (n : Refusal) → v ≡ Err n → (k : ℕ) → k ≡ n.number → Puts (number_line (k ∷ n.place ∷ [])) xs 0 ys p → Puts (listing s) xs 0 ys p
     unfolding listed
-    listing-bad n q w k e g = rw (listing-short s h, was-bad (judge Strict s) n q (sym ev ∙ w), ← e) g
+    listing-bad n w k e g = rw (listing-short s h, was-bad (judge Strict s) n (sym ev ∙ w), ← e) g
 
-    module _ (x : Summary) (w : v ≡ verdict.Accept x) where
+    module _ (x : Summary) (w : v ≡ Ok x) where
       good : Good (judge Strict s) x
       good = was-good (judge Strict s) x (sym ev ∙ w)
 
@@ -48,7 +49,7 @@ module _ (s xs ys : List ℕ) (p : ℕ) where
       pub listing-good : Puts (head_lines x) xs 0 ys p → (zs : List ℕ) (q : ℕ) → Puts (node_lines_of (judge Strict s)) ys p zs q → Puts (listing s) xs 0 zs q
       listing-good k zs q l = rw (← listing_lines) (put_both (head_lines x) (node_lines_of (judge Strict s)) xs 0 ys p zs q k l)
 
-pub listing-nodes : (s : List ℕ) → length s ≤ 65536 → (v : Verdict) → v ≡ verdict_of (judge Strict s) → (x : Summary) → v ≡ verdict.Accept x → Listable s x.tally.nodes
+pub listing-nodes : (s : List ℕ) → length s ≤ 65536 → (v : std.Result Summary Refusal) → v ≡ verdict_of (judge Strict s) → (x : Summary) → v ≡ Ok x → Listable s x.tally.nodes
 listing-nodes s h v ev x w =
     let g = was-good (judge Strict s) x (sym ev ∙ w) in
     record { scene = g.scene; accepted = g.is; count = ap (λ (y : Summary). y.tally.nodes) g.same; short = h }

@@ -4,7 +4,6 @@
 ghost use Rattle.b3d_list_text.specs.Puts.{Puts};
 ghost use Rattle.b3d_list_spec.specs.Listing.{listing, Lists};
 
-use b3d_judge_file_body::Verdict;
 use b3d_list_spec::{MOST_LISTED, MOST_PRINTED};
 use b3d_spec::Mode;
 
@@ -16,8 +15,8 @@ pub fn put_listing(file: &[u8], out: &mut [u8]) -> usize
         return b3d_list_lines::put_pair(1, 0, out, 0);
     }
     match b3d_judge::judge(Mode::Strict, file) {
-        Verdict::Reject(e, p) => b3d_list_lines::put_pair(wire::size(e), p, out, 0),
-        Verdict::Accept(x) => {
+        Err(e) => b3d_list_lines::put_pair(wire::size(e.number), e.place, out, 0),
+        Ok(x) => {
             let t = x.tally;
             let next = b3d_list_output_parts::put_heads(x, out);
             b3d_list_output_parts::put_nodes(file, t.nodes, out, next)

@@ -77,10 +77,8 @@ pub fn put_numbers(numbers: &[usize], out: &mut [u8], at: usize) -> usize
     ensures { Puts (number_line numbers.now) out.old at out.new result }
 {
     let mut next = at;
-    let mut i = 0;
-    while i < numbers.len() {
+    for i in 0..numbers.len() {
         next = put_number(numbers, i, out, next);
-        i += 1;
     }
     next
 }
@@ -91,10 +89,8 @@ fn put_shown(text: &[u8], out: &mut [u8], at: usize) -> usize
     ensures { Puts (map shownAs text.now) out.old at out.new result }
 {
     let mut next = at;
-    let mut i = 0;
-    while i < text.len() {
-        next = put(shown(text[i]), out, next);
-        i += 1;
+    for byte in text {
+        next = put(shown(*byte), out, next);
     }
     next
 }

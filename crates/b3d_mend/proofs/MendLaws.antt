@@ -1,4 +1,7 @@
 -- A law for each way through `copy_accepted`, `mend_faults` and `mend`.
+use Rattle.std.specs.Prelude.{Ok, Err}
+use Rattle.std.specs.Prelude as std
+use Rattle.layout.specs.declared.Refusal.{Refusal}
 use mathlib.Core.Path.{◌≡◌, refl, ap, sym, ◌∙◌}
 use Prim.Native.Nat.{ℕ, ◌+◌, ◌<◌, ◌≤◌}
 use native.Mathlib.Omega.{arith}
@@ -16,8 +19,6 @@ use Rattle.b3d_spec.proofs.Files.FileLaws.{parse-size}
 use Rattle.b3d_spec.specs.Scene.{Scene}
 use Rattle.b3d_judge.specs.Answers.{verdict_of}
 use Rattle.b3d_judge_file_body.specs.declared.Summary.{Summary}
-use Rattle.b3d_judge_file_body.specs.declared.Verdict.{Verdict}
-use Rattle.b3d_judge_file_body.specs.declared.Verdict.TheVariants as verdict
 use Rattle.b3d_mend_spec.specs.Answers.{written_both, file_after, report_after, mend_answer, mend_output, mend_report}
 use Rattle.b3d_mend_spec.specs.Mend.{Mended}
 use Rattle.b3d_mend_spec.specs.Report.{Mending, mend_judged, room_for_both, mend_into}
@@ -32,15 +33,15 @@ use Rattle.b3d_mend.specs.Accepted.{Accepted}
 
 -- ---- what the judges say
 
-was-bad : (o : Result (Mended Scene)) (n p : ℕ) → mended_verdict o ≡ verdict.Reject n p → o ≡ reject n p
-was-bad (accept m) n p h = let z : ◌≡◌ {A = ℕ} 0 1 = cc in absurd (omega arith)
-was-bad (reject m q) n p h = cc
+was-bad : (o : Result (Mended Scene)) (n : Refusal) → mended_verdict o ≡ Err n → o ≡ reject n.number n.place
+was-bad (accept m) n h = let z : ◌≡◌ {A = ℕ} 0 1 = cc in absurd (omega arith)
+was-bad (reject m q) n h = cc
 
-was-good : (o : Result (Mended Scene)) (v : Summary) → mended_verdict o ≡ verdict.Accept v → (x : Mended Scene) × (o ≡ accept x)
+was-good : (o : Result (Mended Scene)) (v : Summary) → mended_verdict o ≡ Ok v → (x : Mended Scene) × (o ≡ accept x)
 was-good (accept m) v h = (m, refl)
 was-good (reject n p) v h = let z : ◌≡◌ {A = ℕ} 0 1 = cc in absurd (omega arith)
 
-was-accepted : (o : Result Scene) (v : Summary) → verdict_of o ≡ verdict.Accept v → (t : Scene) × (o ≡ accept t)
+was-accepted : (o : Result Scene) (v : Summary) → verdict_of o ≡ Ok v → (t : Scene) × (o ≡ accept t)
 was-accepted (accept t) v h = (t, refl)
 was-accepted (reject n p) v h = let z : ◌≡◌ {A = ℕ} 0 1 = cc in absurd (omega arith)
 
@@ -48,36 +49,36 @@ accepted-small : (s : List ℕ) (t : Scene) → judge Lenient s ≡ accept t →
 unfolding judge
 accepted-small s t e = by_got (parse Lenient s) _ e (λ u eu _. omega (arith, parse-size s u eu))
 
-pub is-accepted : (s : List ℕ) (r : Verdict) → r ≡ verdict_of (judge Lenient s) → (v : Summary) → r ≡ verdict.Accept v → AllBytes s → Accepted s
+pub is-accepted : (s : List ℕ) (r : std.Result Summary Refusal) → r ≡ verdict_of (judge Lenient s) → (v : Summary) → r ≡ Ok v → AllBytes s → Accepted s
 is-accepted s r e v z all = let g = was-accepted (judge Lenient s) v (sym e ∙ z) in record { bytes = all; scene = g.0; is = g.1; small = accepted-small s g.0 g.1 }
 
 -- ---- the ways
 
 module _ (s out report : List ℕ) where
   -- what the judge says
-  module _ (r : Verdict) (e : r ≡ mended_verdict (mend_judged s)) where
-    pub mend-can : (v : Summary) → r ≡ verdict.Accept v → AllBytes s → CanMend s
+  module _ (r : std.Result Summary Refusal) (e : r ≡ mended_verdict (mend_judged s)) where
+    pub mend-can : (v : Summary) → r ≡ Ok v → AllBytes s → CanMend s
     mend-can v z all = let g = was-good (mend_judged s) v (sym e ∙ z) in record { bytes = all; value = g.0; is = g.1 }
 
     -- refused
-    module _ (n p : ℕ) (z : r ≡ verdict.Reject n p) where
-      pub mend-place : PlaceValid r → p < 0x100000000
-      mend-place h = omega (arith, h.most n p z)
+    module _ (n : Refusal) (z : r ≡ Err n) where
+      pub mend-place : PlaceValid r → n.place < 0x100000000
+      mend-place h = omega (arith, h.most n z)
 
-      stopped : mend_into (length out) (length report) s ≡ reject n p
-      stopped = is-first s n p (was-bad (mend_judged s) n p (sym e ∙ z)) (length out) (length report)
+      stopped : mend_into (length out) (length report) s ≡ reject n.number n.place
+      stopped = is-first s n.number n.place (was-bad (mend_judged s) n (sym e ∙ z)) (length out) (length report)
 
-      pub mend-refused : (q : ℕ) → q ≡ p → record { number = n; place = q; size = 0; report_size = 0 } ≡ mend_answer s out report
+      pub mend-refused : (q : ℕ) → q ≡ n.place → record { number = n.number; place = q; size = 0; report_size = 0 } ≡ mend_answer s out report
       unfolding written_both
-      mend-refused q h = answered s out report (reject n p) stopped (record { number = n; place = q; size = 0; report_size = 0 }) (rw h)
+      mend-refused q h = answered s out report (reject n.number n.place) stopped (record { number = n.number; place = q; size = 0; report_size = 0 }) (rw h)
 
       pub mend-file-kept : out ≡ mend_output s out report
       unfolding file_after
-      mend-file-kept = file_so s out report (reject n p) stopped out refl
+      mend-file-kept = file_so s out report (reject n.number n.place) stopped out refl
 
       pub mend-report-kept : report ≡ mend_report s out report
       unfolding report_after
-      mend-report-kept = report_so s out report (reject n p) stopped report refl
+      mend-report-kept = report_so s out report (reject n.number n.place) stopped report refl
 
   -- accepted
   module _ (a : Accepted s) where

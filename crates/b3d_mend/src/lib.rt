@@ -5,7 +5,6 @@ ghost use Rattle.std.specs.Prelude.{◌≡◌};
 ghost use Rattle.b3d_mend_spec.specs.Answers.{mend_answer, mend_output, mend_report};
 ghost use Rattle.b3d_mend.specs.Accepted.{Accepted};
 
-use b3d_judge_file_body::Verdict;
 use b3d_mend_spec::WrittenBoth;
 use b3d_spec::Mode;
 
@@ -32,13 +31,13 @@ fn mend_faults(file: &[u8], out: &mut [u8], report: &mut [u8]) -> WrittenBoth
     ensures report_after { report.new ≡ mend_report file.now out.old report.old }
 {
     match b3d_mend_judge::judge_mended(file) {
-        Verdict::Reject(number, place) => WrittenBoth {
-            number,
-            place: shared_table_words::cell(place),
+        Err(e) => WrittenBoth {
+            number: e.number,
+            place: shared_table_words::cell(e.place),
             size: 0,
             report_size: 0,
         },
-        Verdict::Accept(_) => {
+        Ok(_) => {
             b3d_judge::are_bytes(file);
             b3d_mend_write_both::put_both(file, out, report)
         }
@@ -54,10 +53,10 @@ pub fn mend(file: &[u8], out: &mut [u8], report: &mut [u8]) -> WrittenBoth
     ensures report_after { report.new ≡ mend_report file.now out.old report.old }
 {
     match b3d_judge::judge(Mode::Lenient, file) {
-        Verdict::Accept(_) => {
+        Ok(_) => {
             b3d_judge::are_bytes(file);
             copy_accepted(file, out, report)
         }
-        Verdict::Reject(_, _) => mend_faults(file, out, report),
+        Err(_) => mend_faults(file, out, report),
     }
 }

@@ -1,4 +1,9 @@
 -- A law for each way through `lax_body`.
+use Rattle.layout.specs.Refused.{refusal_at}
+use Rattle.std.specs.Prelude.{Ok, Err, Some, None}
+use Rattle.std.specs.Prelude as std
+use Rattle.b3d_judge_file_body.specs.declared.Summary.{Summary}
+use Rattle.layout.specs.declared.Refusal.{Refusal}
 use mathlib.Core.Path.{◌≡◌, refl, ap, sym, ◌∙◌}
 use Prim.Native.Nat.{ℕ, ◌≤◌, ◌<◌}
 use native.Mathlib.Omega.{arith}
@@ -6,8 +11,6 @@ use mathlib.Core.List.{List, []}
 use lib.ListN.{length, drop}
 use Rattle.wire.specs.Cursors.{Inside, number_at}
 use Rattle.wire.specs.declared.Cursor.{Cursor}
-use Rattle.wire.specs.declared.Number.{Number}
-use Rattle.wire.specs.declared.Number.TheVariants as number
 use Rattle.layout.specs.Result.{Result, accept, ◌>>=◌}
 use Rattle.layout.proofs.ResultLaws.{bind_cong, bind_bind}
 use Rattle.b3d_spec.specs.declared.Mode.TheVariants.{Lenient}
@@ -28,8 +31,6 @@ use Rattle.b3d_mend_judge_items.specs.Trimmed.{Trimmed}
 use Rattle.b3d_mend_judge_file.specs.Phases.{lax_last, lax_rest}
 use Rattle.b3d_judge_file_body.specs.Bodies.{walked, WalkedIn, Walks}
 use Rattle.b3d_mend_judge.specs.Bodies.{lax_chunks}
-use Rattle.b3d_judge_file_body.specs.declared.Verdict.{Verdict}
-use Rattle.b3d_judge_file_body.specs.declared.Verdict.TheVariants as verdict
 
 -- the end of the file is looked at before the scene is made, or after
 ended_made : {A B : Type 0} (cs : Chunks) (f : A → B) (a : A) → ended cs (f a) ≡ (ended cs a >>= λ x. accept (f x))
@@ -77,23 +78,23 @@ regroup v cs =
     ∙ sym (bind_bind (read_one BRUS (0, []) (read_brushes Lenient every) t.rest) (λ u. rest_of u.value (lax_last u.rest)) (λ x. accept (scene_of v t.value x.0 x.1))))
 
 -- the same answer in more bytes
-wider : (n more : ℕ) (y : Verdict) → n ≤ more → WalkedIn n y → WalkedIn more y
-wider n more (verdict.Accept x) le h = within_more n more h le
-wider n more (verdict.Reject k p) le h = omega arith
+wider : (n more : ℕ) (y : std.Result Summary Refusal) → n ≤ more → WalkedIn n y → WalkedIn more y
+wider n more (Ok x) le h = within_more n more h le
+wider n more (Err e) le h = omega arith
 
-module _ (s : List ℕ) (lo : 8 ≤ length s) (hi : length s ≤ most_bytes) (r : Number) (e : r ≡ number_at s (behind s)) where
+module _ (s : List ℕ) (lo : 8 ≤ length s) (hi : length s ≤ most_bytes) (r : std.Option (ℕ × Cursor)) (e : r ≡ number_at s (behind s)) where
   body_is : Body 0 (behind s) (length s)
   body_is = record { head = refl; room = lo; within = omega arith; small = hi }
 
-  abbrev Body-right : Verdict → Type 0
+  abbrev Body-right : std.Result Summary Refusal → Type 0
   Body-right y = Walks (lax_body 8 (drop 8 s)) (length s) y
 
-  pub body-cut : r ≡ number.Cut → Body-right (verdict.Reject 5 8)
+  pub body-cut : r ≡ None → Body-right (Err (refusal_at 5 8))
   unfolding lax_body
   body-cut w = record { is = rw (← left_behind s, head_cut s 0 (behind s) body_is r e version w); within = lo }
 
-  module _ (k : ℕ) (c : Cursor) (w : r ≡ number.Is k c) where
-    pub body-version : 99 < k → Body-right (verdict.Reject 6 8)
+  module _ (k : ℕ) (c : Cursor) (w : r ≡ Some (k, c)) where
+    pub body-version : 99 < k → Body-right (Err (refusal_at 6 8))
     unfolding lax_body
     body-version h = record { is = rw (← left_behind s, head_over s 0 (behind s) body_is r e k c w 99 h); within = lo }
 
@@ -109,7 +110,7 @@ module _ (s : List ℕ) (lo : 8 ≤ length s) (hi : length s ≤ most_bytes) (r 
       pub body-twelve : d.at ≡ 12
       body-twelve = let f = head-numbered s 0 (behind s) body_is r e k c w in omega (arith, x.same)
 
-      pub body-chunks : k ≤ 99 → (y : Verdict) → Walks (lax_chunks k (rest_in s BB3D 0 start d)) d.end y → Body-right y
+      pub body-chunks : k ≤ 99 → (y : std.Result Summary Refusal) → Walks (lax_chunks k (rest_in s BB3D 0 start d)) d.end y → Body-right y
       unfolding lax_body rest_in lax_inside
       body-chunks h y v =
           let f = head-numbered s 0 (behind s) body_is r e k c w in

@@ -1,4 +1,8 @@
 -- A law for each way through `lax_chunks`.
+use Rattle.std.specs.Prelude.{Ok, Err}
+use Rattle.std.specs.Prelude as std
+use Rattle.b3d_judge_file_body.specs.declared.Summary.{Summary}
+use Rattle.layout.specs.declared.Refusal.{Refusal}
 use mathlib.Core.Path.{ap, ap₂, sym, subst, ◌≡◌, ◌∙◌}
 use Prim.Native.Nat.{ℕ, ◌≤◌, ◌-◌}
 use native.Mathlib.Omega.{arith}
@@ -15,8 +19,6 @@ use Rattle.b3d_spec.specs.Nesting.{start, reached_at}
 use Rattle.b3d_spec.specs.Parse.{read_one, read_textures}
 use Rattle.b3d_judge_tally.specs.Tally.{bytes_tally, texs_tally, brus_tally, forest_tally, scene_tally, plus, Within}
 use Rattle.b3d_judge_materials.specs.Answers.{SlottedIn}
-use Rattle.b3d_judge_materials.specs.declared.BrushesSummary.{BrushesSummary}
-use Rattle.b3d_judge_materials.specs.declared.BrushesSummary.TheVariants as slotted
 use Rattle.b3d_judge_tally.specs.declared.Tally.{Tally}
 use Rattle.b3d_judge_tally.proofs.TallyLaws.{plus_assoc, within_more, within-plus, within-bytes}
 use Rattle.b3d_spec_chunk_places.specs.Places.{rest_in, Among}
@@ -25,17 +27,13 @@ use Rattle.b3d_mend_judge_file.specs.Phases.{lax_rest}
 use Rattle.b3d_judge_file_body.specs.Bodies.{walked, Walks}
 use Rattle.b3d_mend_judge.specs.Bodies.{lax_chunks}
 use Rattle.b3d_judge_tally.specs.Answers.{Onward}
-use Rattle.b3d_judge_file_chunks.specs.declared.Phase.{Phase}
-use Rattle.b3d_judge_file_chunks.specs.declared.Phase.TheVariants as phase
-use Rattle.b3d_judge_file_body.specs.declared.Verdict.{Verdict}
-use Rattle.b3d_judge_file_body.specs.declared.Verdict.TheVariants as verdict
 use Rattle.b3d_judge_file_chunks.proofs.AnswerLaws.{tallied-bad, GaveFound, tallied-good, phases_at, rested-bad, rested-good}
 
 -- ---- the ways of `lax_chunks`
 
 module _ (s : List ℕ) (v : ℕ) (from : Cursor) (g : Among 0 from (length s)) (twelve : from.at ≡ 12)
-    (j : Phase) (hj : Phases texs_tally (read_one TEXS [] read_textures (rest_in s BB3D 0 start from)) (rest_in s BB3D 0 (reached_at 1 true)) from j) where
-  abbrev Right : Verdict → Type 0
+    (j : std.Result (Tally × Cursor) Refusal) (hj : Phases texs_tally (read_one TEXS [] read_textures (rest_in s BB3D 0 start from)) (rest_in s BB3D 0 (reached_at 1 true)) from j) where
+  abbrev Right : std.Result Summary Refusal → Type 0
   Right y = Walks (lax_chunks v (rest_in s BB3D 0 start from)) from.end y
 
   -- the rest after textures
@@ -45,13 +43,13 @@ module _ (s : List ℕ) (v : ℕ) (from : Cursor) (g : Among 0 from (length s)) 
   abbrev all : Result (Found (List Texture)) → Result Scene
   all o = o >>= λ t. then t.value (lax_rest t.rest)
 
-  pub chunks_texs_bad : (e q : ℕ) → j ≡ phase.Reject e q → Right (verdict.Reject e q)
+  pub chunks_texs_bad : (e : Refusal) → j ≡ Err e → Right (Err e)
   unfolding lax_chunks
-  chunks_texs_bad e q z =
-      let b = tallied-bad texs_tally (read_one TEXS [] read_textures (rest_in s BB3D 0 start from)) e q (phases_at texs_tally (read_one TEXS [] read_textures (rest_in s BB3D 0 start from)) (rest_in s BB3D 0 (reached_at 1 true)) from j hj z) in
+  chunks_texs_bad e z =
+      let b = tallied-bad texs_tally (read_one TEXS [] read_textures (rest_in s BB3D 0 start from)) e.number e.place (phases_at texs_tally (read_one TEXS [] read_textures (rest_in s BB3D 0 start from)) (rest_in s BB3D 0 (reached_at 1 true)) from j hj z) in
       record { is = rw b; within = subst (PhasedIn from) z hj.within }
 
-  module _ (t : Tally) (c : Cursor) (z : j ≡ phase.Accept t c) where
+  module _ (t : Tally) (c : Cursor) (z : j ≡ Ok (t, c)) where
     texs_on : Onward from c t
     texs_on = subst (PhasedIn from) z hj.within
 
@@ -74,22 +72,22 @@ module _ (s : List ℕ) (v : ℕ) (from : Cursor) (g : Among 0 from (length s)) 
     unfolding lax_chunks
     texs_read = ap all gave_texs.is
 
-    module _ (i : BrushesSummary) (hi : Rests (lax_rest (rest_in s BB3D 0 (reached_at 1 true) c)) c.at c.end i) where
-      pub chunks-rest-bad : (e q : ℕ) → i ≡ slotted.Reject e q → Right (verdict.Reject e q)
-      chunks-rest-bad e q w =
-          let n = rested-bad (lax_rest (rest_in s BB3D 0 (reached_at 1 true) c)) e q (sym hi.is ∙ w) in
-          let le : q ≤ c.end = subst (SlottedIn c.at c.end) w hi.within in
+    module _ (i : std.Result (ℕ × Tally) Refusal) (hi : Rests (lax_rest (rest_in s BB3D 0 (reached_at 1 true) c)) c.at c.end i) where
+      pub chunks-rest-bad : (e : Refusal) → i ≡ Err e → Right (Err e)
+      chunks-rest-bad e w =
+          let n = rested-bad (lax_rest (rest_in s BB3D 0 (reached_at 1 true) c)) e (sym hi.is ∙ w) in
+          let le : e.place ≤ c.end = subst (SlottedIn c.at c.end) w hi.within in
           let o = texs_on in
           record { is = rw (texs_read, n); within = omega (arith, o.same) }
 
-      module _ (slots : ℕ) (r : Tally) (w : i ≡ slotted.Accept slots r) where
+      module _ (slots : ℕ) (r : Tally) (w : i ≡ Ok (slots, r)) where
         rest-within : Within r (c.end - c.at)
         rest-within = subst (SlottedIn c.at c.end) w hi.within
 
         pub chunks-rest-small : Within r most_bytes
         chunks-rest-small = let a = chunks-among in within_more (c.end - c.at) most_bytes rest-within (omega (arith, a.within, a.small))
 
-        pub chunks-good : (m : Tally) → m ≡ plus (plus (bytes_tally 12) t) r → Right (verdict.Accept (record { version = v; n_texs = slots; tally = m }))
+        pub chunks-good : (m : Tally) → m ≡ plus (plus (bytes_tally 12) t) r → Right (Ok (record { version = v; n_texs = slots; tally = m }))
         unfolding scene_tally
         chunks-good m e =
             let o = texs_on in
@@ -101,7 +99,7 @@ module _ (s : List ℕ) (v : ℕ) (from : Cursor) (g : Among 0 from (length s)) 
             e ∙ ap₂ plus (ap (plus (bytes_tally 12)) a.has) x.has
             ∙ sym (plus_assoc (plus (bytes_tally 12) (texs_tally a.value)) (brus_tally x.value.0.0 x.value.0.1) (forest_tally x.value.1)) in
             record {
-              is = (λ i. verdict.Accept (record { version = v; n_texs = x.slots i; tally = total i })) ∙ ap walked (sym to);
+              is = (λ i. Ok (record { version = v; n_texs = x.slots i; tally = total i })) ∙ ap walked (sym to);
               within = rw e (within-plus (plus (bytes_tally 12) t) r c.at (c.end - c.at) from.end first-within rest-within (omega (arith, o.room, o.same)));
             }
 

@@ -1,11 +1,15 @@
 -- A law for each way through `judge_mended`.
+use Rattle.layout.specs.Refused.{refusal_at}
+use Rattle.std.specs.Prelude.{Ok, Err}
+use Rattle.std.specs.Prelude as std
+use Rattle.layout.specs.declared.Refusal.{Refusal}
 use mathlib.Core.Path.{◌≡◌, refl, sym, ap, subst, ◌∙◌}
 use Prim.Native.Nat.{ℕ, ◌<◌, ◌≤◌}
 use native.Mathlib.Omega.{arith}
 use mathlib.Core.Bool.{Bool, true, false}
 use mathlib.Core.List.{List, [], ◌∷◌}
 use lib.ListN.{length, drop, get_or}
-use lib.Dec.{leb, ltb, eqb}
+use lib.Dec.{leb, ltb}
 use borrow.Author.Tests.{eq-eqb, ne_eqb, lt-leb, le-leb}
 use Rattle.wire.specs.Bytes.{bytes, word_at, AllBytes}
 use Rattle.wire.proofs.WordLaws.{drop-bytes}
@@ -23,8 +27,6 @@ use Rattle.b3d_judge_tally.specs.declared.Tally.{Tally}
 use Rattle.b3d_spec_chunk_places.proofs.HeadLaws.{head-is}
 use Rattle.b3d_judge_file_body.specs.Bodies.{walked, WalkedIn, Walks}
 use Rattle.b3d_judge_file_body.specs.declared.Summary.{Summary}
-use Rattle.b3d_judge_file_body.specs.declared.Verdict.{Verdict}
-use Rattle.b3d_judge_file_body.specs.declared.Verdict.TheVariants as verdict
 use Rattle.b3d_judge.proofs.JudgeLaws.{first_word}
 use Rattle.b3d_judge_limits.specs.Limits.{over_limit, tallied}
 use Rattle.b3d_judge_limits.proofs.LimitLaws.{over_none, over-some}
@@ -39,21 +41,21 @@ use Rattle.b3d_mend_judge.specs.Answers.{mended_verdict, PlaceValid}
 
 -- the answer of the walk is that of the mending read
 same_verdict : (o : Result Scene) (u : Result (Mended Scene)) → Alike SameScene o u → walked o ≡ mended_verdict u
-same_verdict (accept t) (accept m) h = λ i. verdict.Accept (record { version = h.version i; n_texs = h.slots i; tally = h.tally i })
+same_verdict (accept t) (accept m) h = λ i. Ok (record { version = h.version i; n_texs = h.slots i; tally = h.tally i })
 same_verdict (accept t) (reject n p) h = absurd h
 same_verdict (reject n p) (accept m) h = absurd h
-same_verdict (reject n p) (reject m q) h = λ i. verdict.Reject (h.0 i) (h.1 i)
+same_verdict (reject n p) (reject m q) h = λ i. Err (refusal_at (h.0 i) (h.1 i))
 
-verdict_bad : (u : Result (Mended Scene)) (e p : ℕ) → mended_verdict u ≡ verdict.Reject e p → u ≡ reject e p
-verdict_bad (accept m) e p h = let z : ◌≡◌ {A = ℕ} 0 1 = cc in absurd (omega arith)
-verdict_bad (reject n q) e p h = cc
+verdict_bad : (u : Result (Mended Scene)) (e : Refusal) → mended_verdict u ≡ Err e → u ≡ reject e.number e.place
+verdict_bad (accept m) e h = let z : ◌≡◌ {A = ℕ} 0 1 = cc in absurd (omega arith)
+verdict_bad (reject n q) e h = cc
 
 record Gave (u : Result (Mended Scene)) (x : Summary) : Type 0 where
   value : Mended Scene
   is : u ≡ accept value
   same : x ≡ record { version = value.value.version; n_texs = value.value.slots; tally = scene_tally value.value }
 
-verdict_good : (u : Result (Mended Scene)) (x : Summary) → mended_verdict u ≡ verdict.Accept x → Gave u x
+verdict_good : (u : Result (Mended Scene)) (x : Summary) → mended_verdict u ≡ Ok x → Gave u x
 verdict_good (accept m) x h = record { value = m; is = refl; same = cc }
 verdict_good (reject n p) x h = let z : ◌≡◌ {A = ℕ} 0 1 = cc in absurd (omega arith)
 
@@ -71,11 +73,11 @@ abbrev limited : Mended Scene → Result (Mended Scene)
 limited x = each_of 10 (λ k. leb (length (rows k x.value)) row_limit) tables >>= λ _. accept x
 
 module _ (s : List ℕ) where
-  pub mended-low : length s < 12 → verdict.Reject 1 0 ≡ mended_verdict (mend_judged s)
+  pub mended-low : length s < 12 → Err (refusal_at 1 0) ≡ mended_verdict (mend_judged s)
   unfolding mend_judged mend_file check
   mended-low h = rw (size_low (length s) h)
 
-  pub mended-high : 16777216 < length s → verdict.Reject 1 0 ≡ mended_verdict (mend_judged s)
+  pub mended-high : 16777216 < length s → Err (refusal_at 1 0) ≡ mended_verdict (mend_judged s)
   unfolding mend_judged mend_file check
   mended-high h = rw (size-high (length s) h)
 
@@ -83,11 +85,11 @@ module _ (s : List ℕ) where
     eight : 8 ≤ length s
     eight = omega arith
 
-    pub mended-tag : (tag ≡ 0x44334242 → ⊥) → verdict.Reject 2 0 ≡ mended_verdict (mend_judged s)
+    pub mended-tag : (tag ≡ 0x44334242 → ⊥) → Err (refusal_at 2 0) ≡ mended_verdict (mend_judged s)
     unfolding mend_judged mend_file check
     mended-tag d = rw (size-good (length s) lo hi, head-is s eight, first_word s eight, ← et, ne_eqb tag 0x44334242 d)
 
-    module _ (letters : tag ≡ 0x44334242) (b : AllBytes s) (j : Verdict) (hj : Walks (lax_body 8 (drop 8 s)) (length s) j) where
+    module _ (letters : tag ≡ 0x44334242) (b : AllBytes s) (j : std.Result Summary Refusal) (hj : Walks (lax_body 8 (drop 8 s)) (length s) j) where
       body : j ≡ mended_verdict (mend_body 8 (drop 8 s))
       body = hj.is ∙ same_verdict (lax_body 8 (drop 8 s)) (mend_body 8 (drop 8 s)) (body_alike 8 (drop 8 s) (drop-bytes 8 s b))
 
@@ -105,10 +107,10 @@ module _ (s : List ℕ) where
       unfolding mend_judged mend_file check
       opened m h = record { whole = record { value = m.value; edits = keep (bytes (code BB3D) []) ∷ file_length (get_or (words_of 2 s) 1 0) (length (drop 8 s)) (length (after m.edits)) ∷ m.edits }; value = refl; is = rw (size-good (length s) lo hi, head-is s eight, first_word s eight, ← et, eq-eqb tag 0x44334242 letters, h) }
 
-      pub mended-refused : (e q : ℕ) → j ≡ verdict.Reject e q → verdict.Reject e q ≡ mended_verdict (mend_judged s)
-      mended-refused e q z = rw (opened-bad e q (verdict_bad (mend_body 8 (drop 8 s)) e q (sym body ∙ z)))
+      pub mended-refused : (e : Refusal) → j ≡ Err e → Err e ≡ mended_verdict (mend_judged s)
+      mended-refused e z = rw (opened-bad e.number e.place (verdict_bad (mend_body 8 (drop 8 s)) e (sym body ∙ z)))
 
-      module _ (x : Summary) (z : j ≡ verdict.Accept x) (n : ℕ) (en : n ≡ over_limit x.tally) where
+      module _ (x : Summary) (z : j ≡ Ok x) (n : ℕ) (en : n ≡ over_limit x.tally) where
         gave : Gave (mend_body 8 (drop 8 s)) x
         gave = verdict_good (mend_body 8 (drop 8 s)) x (sym body ∙ z)
 
@@ -121,28 +123,28 @@ module _ (s : List ℕ) where
         over-at : n ≡ over_limit (tallied (λ k. length (rows k file.whole.value)) (scene_tally file.whole.value).copy)
         over-at = en ∙ ap over_limit (tally_is ∙ counts_are file.whole.value)
 
-        pub mended-over : (n ≡ 0 → ⊥) → verdict.Reject 10 n ≡ mended_verdict (mend_judged s)
+        pub mended-over : (n ≡ 0 → ⊥) → Err (refusal_at 10 n) ≡ mended_verdict (mend_judged s)
         mended-over d =
             ap mended_verdict (sym (file.is ∙ ap (λ (o : Result (Unit {0})). o >>= λ _. accept file.whole) (over-some (λ k. length (rows k file.whole.value)) (scene_tally file.whole.value).copy n over-at d)))
 
-        pub mended-good : n ≡ 0 → verdict.Accept x ≡ mended_verdict (mend_judged s)
+        pub mended-good : n ≡ 0 → Ok x ≡ mended_verdict (mend_judged s)
         mended-good q =
-            ap verdict.Accept (gave.same ∙ ap (λ (v : Scene). record { version = v.version; n_texs = v.slots; tally = scene_tally v }) (sym file.value))
+            ap Ok (gave.same ∙ ap (λ (v : Scene). record { version = v.version; n_texs = v.slots; tally = scene_tally v }) (sym file.value))
             ∙ ap mended_verdict (sym (file.is ∙ ap (λ (o : Result (Unit {0})). o >>= λ _. accept file.whole) (over_none (λ k. length (rows k file.whole.value)) (scene_tally file.whole.value).copy n over-at q)))
 
 -- ---- places
 
-at_most : (n p : ℕ) → p ≤ 16777216 → PlaceValid (verdict.Reject n p)
-at_most n p h = record { most = λ m q e. let z : p ≡ q = cc in omega (arith, z) }
+at_most : (n : Refusal) → n.place ≤ 16777216 → PlaceValid (Err n)
+at_most n h = record { most = λ m e. let z : n.place ≡ m.place = cc in omega (arith, z) }
 
-pub placed_first : (n : ℕ) → PlaceValid (verdict.Reject n 0)
-placed_first n = at_most n 0 (omega arith)
+pub placed_first : (n : ℕ) → PlaceValid (Err (refusal_at n 0))
+placed_first n = at_most (refusal_at n 0) (omega arith)
 
-pub placed-good : (x : Summary) → PlaceValid (verdict.Accept x)
-placed-good x = record { most = λ m q e. let z : ◌≡◌ {A = ℕ} 0 1 = cc in absurd (omega arith) }
+pub placed-good : (x : Summary) → PlaceValid (Ok x)
+placed-good x = record { most = λ m e. let z : ◌≡◌ {A = ℕ} 0 1 = cc in absurd (omega arith) }
 
-pub placed-refused : (s : List ℕ) → length s ≤ 16777216 → (j : Verdict) → Walks (lax_body 8 (drop 8 s)) (length s) j → (e q : ℕ) → j ≡ verdict.Reject e q → PlaceValid (verdict.Reject e q)
-placed-refused s hi j h e q z = let w : q ≤ length s = subst (WalkedIn (length s)) z h.within in at_most e q (omega arith)
+pub placed-refused : (s : List ℕ) → length s ≤ 16777216 → (j : std.Result Summary Refusal) → Walks (lax_body 8 (drop 8 s)) (length s) j → (e : Refusal) → j ≡ Err e → PlaceValid (Err e)
+placed-refused s hi j h e z = let w : e.place ≤ length s = subst (WalkedIn (length s)) z h.within in at_most e (omega arith)
 
 either : (b : Bool) (k n : ℕ) → k ≤ 10 → n ≤ 10 → if b k n ≤ 10
 unfolding if
@@ -162,7 +164,7 @@ over-small t =
     (either (ltb row_limit t.weights) 8 _ (omega arith)
     (either (ltb row_limit t.lists) 9 _ (omega arith) (either (ltb row_limit t.keys) 10 0 (omega arith) (omega arith))))))))))
 
-pub placed-over : (t : Tally) (n : ℕ) → n ≡ over_limit t → PlaceValid (verdict.Reject 10 n)
-placed-over t n e = at_most 10 n (omega (arith, e, over-small t))
+pub placed-over : (t : Tally) (n : ℕ) → n ≡ over_limit t → PlaceValid (Err (refusal_at 10 n))
+placed-over t n e = at_most (refusal_at 10 n) (omega (arith, e, over-small t))
 
 pub ruleset mended_laws = (mended-low, mended-high, mended-tag, mended-refused, mended-over, mended-good, placed_first, placed-good, placed-refused, placed-over)

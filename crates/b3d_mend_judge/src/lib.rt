@@ -13,33 +13,27 @@ ghost use Rattle.b3d_mend_judge.specs.Bodies.{lax_chunks};
 ghost use Rattle.b3d_mend_spec.specs.Report.{mend_judged};
 ghost use Rattle.b3d_mend_judge.specs.Answers.{mended_verdict, PlaceValid};
 
-use b3d_judge_file_body::{Summary, Verdict};
-use b3d_judge_file_chunks::Phase;
-use b3d_judge_materials::BrushesSummary;
+use b3d_judge_file_body::Summary;
 use b3d_spec::{HIGHEST_VERSION, letters};
-use layout::{FEWEST_BYTES, MOST_BYTES, refusals};
-use wire::{Cursor, Number};
+use layout::{FEWEST_BYTES, MOST_BYTES, Refusal, refusals};
+use wire::Cursor;
 
 // Judges TEXS, BRUS and NODE, from the first chunk of a file on.
-fn lax_chunks(s: &[u8], version: u32, from: Cursor) -> Verdict
+fn lax_chunks(s: &[u8], version: u32, from: Cursor) -> Result<Summary, Refusal>
     requires { Among 0 from (length s.now) × (from.at ≡ 12) }
     ensures { Walks (lax_chunks version (rest_in s.now BB3D 0 start from)) from.end result }
 {
-    match b3d_judge_file_chunks::judge_texs_chunk(s, from) {
-        Phase::Reject(e, p) => Verdict::Reject(e, p),
-        Phase::Accept(t, c) => match b3d_mend_judge_file::lax_rest(s, c) {
-            BrushesSummary::Reject(e, p) => Verdict::Reject(e, p),
-            BrushesSummary::Accept(slots, r) => Verdict::Accept(Summary {
-                version,
-                n_texs: slots,
-                tally: b3d_judge_file_body::file_rows(t, r),
-            }),
-        },
-    }
+    let (t, c) = b3d_judge_file_chunks::judge_texs_chunk(s, from)?;
+    let (slots, r) = b3d_mend_judge_file::lax_rest(s, c)?;
+    Ok(Summary {
+        version,
+        n_texs: slots,
+        tally: b3d_judge_file_body::file_rows(t, r),
+    })
 }
 
 // Judges all that follows the header of a file: its version, then its chunks without spare bytes.
-fn lax_body(s: &[u8]) -> Verdict
+fn lax_body(s: &[u8]) -> Result<Summary, Refusal>
     requires { (8 ≤ length s.now) × (length s.now ≤ most_bytes) }
     ensures { Walks (lax_body 8 (drop 8 s.now)) (length s.now) result }
 {
@@ -47,42 +41,54 @@ fn lax_body(s: &[u8]) -> Verdict
         at: 8,
         end: s.len(),
     };
-    match behind.number(s) {
-        Number::Cut => Verdict::Reject(refusals::CUT_ITEM, 8),
-        Number::Is(version, c) => {
-            if HIGHEST_VERSION < version {
-                return Verdict::Reject(refusals::RANGE, 8);
-            }
-            let d = b3d_mend_judge_items::trimmed(s, c);
-            lax_chunks(s, version, d)
-        }
+    let Some((version, c)) = behind.number(s) else {
+        return Err(Refusal {
+            number: refusals::CUT_ITEM,
+            place: 8,
+        });
+    };
+    if HIGHEST_VERSION < version {
+        return Err(Refusal {
+            number: refusals::RANGE,
+            place: 8,
+        });
     }
+    let d = b3d_mend_judge_items::trimmed(s, c);
+    lax_chunks(s, version, d)
 }
 
 // Returns what a file says as it is mended, or the first fault that is not mended. BB3D ends where the file does, whatever its length says.
-pub fn judge_mended(file: &[u8]) -> Verdict
+pub fn judge_mended(file: &[u8]) -> Result<Summary, Refusal>
     ensures value { result ≡ mended_verdict (mend_judged file.now) }
     ensures place_valid { PlaceValid result }
 {
     let n = file.len();
     if n < FEWEST_BYTES {
-        return Verdict::Reject(refusals::FILE_SIZE, 0);
+        return Err(Refusal {
+            number: refusals::FILE_SIZE,
+            place: 0,
+        });
     }
     if MOST_BYTES < n {
-        return Verdict::Reject(refusals::FILE_SIZE, 0);
+        return Err(Refusal {
+            number: refusals::FILE_SIZE,
+            place: 0,
+        });
     }
     if wire::number_at(file, 0) != letters::BB3D {
-        return Verdict::Reject(refusals::FIRST_TAG, 0);
+        return Err(Refusal {
+            number: refusals::FIRST_TAG,
+            place: 0,
+        });
     }
     b3d_judge::are_bytes(file);
-    match lax_body(file) {
-        Verdict::Reject(e, p) => Verdict::Reject(e, p),
-        Verdict::Accept(x) => {
-            let over = b3d_judge_limits::over_limit(x.tally);
-            if over != 0 {
-                return Verdict::Reject(refusals::TOO_MANY_ROWS, over);
-            }
-            Verdict::Accept(x)
-        }
+    let x = lax_body(file)?;
+    let over = b3d_judge_limits::over_limit(x.tally);
+    if over != 0 {
+        return Err(Refusal {
+            number: refusals::TOO_MANY_ROWS,
+            place: over,
+        });
     }
+    Ok(x)
 }

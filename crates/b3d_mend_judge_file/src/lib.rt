@@ -14,12 +14,10 @@ ghost use Rattle.b3d_mend_judge_items.specs.Lax.{lax_root};
 ghost use Rattle.b3d_mend_judge_file.specs.Phases.{lax_last, lax_rest};
 
 use b3d_chunk_next_allowed::Enclosed;
-use b3d_judge_file_chunks::{BrusSummary, Phase};
-use b3d_judge_materials::BrushesSummary;
-use b3d_judge_node::Above;
-use b3d_judge_tally::Judged;
+use b3d_judge_tally::Tally;
 use b3d_rule_nesting_order::Reached;
 use b3d_spec::{ALL_LEVELS, Mode, Tag};
+use layout::Refusal;
 use wire::Cursor;
 
 // How far the chunks of a file have come after its brushes and its root, with them or without.
@@ -37,53 +35,45 @@ const ROOT_READ: Reached = Reached {
 const EVERY: usize = 4294967296;
 
 // Judges the root with the nodes below it, if NODE comes first.
-fn lax_root(s: &[u8], from: Cursor) -> Phase
+fn lax_root(s: &[u8], from: Cursor) -> Result<(Tally, Cursor), Refusal>
     requires { Among 0 from (length s.now) }
     ensures { Phases forest_tally (read_one NODE no_nodes lax_root (rest_in s.now BB3D 0 (reached_at 2 true) from))
         (rest_in s.now BB3D 0 (reached_at 3 true)) from result }
 {
     let found = b3d_chunk_cursor::next_chunk(s, from);
-    match b3d_chunk_next_allowed::next_inside(s, from, found, Tag::BB3D, 0, BRUS_READ) {
-        Enclosed::End => Phase::Accept(b3d_judge_tally::none(), from),
-        Enclosed::Reject(e, p) => Phase::Reject(e, p),
-        Enclosed::Chunk { at, body, next, .. } => {
-            match b3d_mend_judge_tree::lax_node(s, at, body, ALL_LEVELS, Above::Root) {
-                Judged::Reject(e, p) => Phase::Reject(e, p),
-                Judged::Accept(t) => Phase::Accept(t, next),
-            }
-        }
-    }
+    let Some(Enclosed { at, body, next, .. }) = b3d_chunk_next_allowed::next_inside(
+        s,
+        from,
+        found,
+        Tag::BB3D,
+        0,
+        BRUS_READ,
+    )?
+    else {
+        return Ok((b3d_judge_tally::none(), from));
+    };
+    let t = b3d_mend_judge_tree::lax_node(s, at, body, ALL_LEVELS, None)?;
+    Ok((t, next))
 }
 
 // Judges the root, if NODE comes first; nothing known may follow it.
-fn lax_last(s: &[u8], from: Cursor) -> Judged
+fn lax_last(s: &[u8], from: Cursor) -> Result<Tally, Refusal>
     requires { Among 0 from (length s.now) }
     ensures { Judges forest_tally (lax_last (rest_in s.now BB3D 0 (reached_at 2 true) from)) from.at from.end result }
 {
-    match lax_root(s, from) {
-        Phase::Reject(e, p) => Judged::Reject(e, p),
-        Phase::Accept(t, end) => {
-            let found = b3d_chunk_cursor::next_chunk(s, end);
-            match b3d_chunk_next_allowed::next_inside(s, end, found, Tag::BB3D, 0, ROOT_READ) {
-                Enclosed::End => Judged::Accept(t),
-                Enclosed::Reject(e, p) => Judged::Reject(e, p),
-                // Nothing may stand here.
-                Enclosed::Chunk { .. } => Judged::Accept(t),
-            }
-        }
-    }
+    let (t, end) = lax_root(s, from)?;
+    let found = b3d_chunk_cursor::next_chunk(s, end);
+    // Nothing known may stand here.
+    b3d_chunk_next_allowed::next_inside(s, end, found, Tag::BB3D, 0, ROOT_READ)?;
+    Ok(t)
 }
 
 // Judges BRUS, whatever its texture ids, and NODE.
-pub fn lax_rest(s: &[u8], from: Cursor) -> BrushesSummary
+pub fn lax_rest(s: &[u8], from: Cursor) -> Result<(u32, Tally), Refusal>
     requires { Among 0 from (length s.now) }
     ensures { Rests (lax_rest (rest_in s.now BB3D 0 (reached_at 1 true) from)) from.at from.end result }
 {
-    match b3d_judge_file_chunks::judge_brus_chunk(s, from, EVERY, Mode::Lenient) {
-        BrusSummary::Reject(e, p) => BrushesSummary::Reject(e, p),
-        BrusSummary::Accept(slots, b, c) => match lax_last(s, c) {
-            Judged::Reject(e, p) => BrushesSummary::Reject(e, p),
-            Judged::Accept(f) => BrushesSummary::Accept(slots, b3d_judge_tally::plus(b, f)),
-        },
-    }
+    let (slots, b, c) = b3d_judge_file_chunks::judge_brus_chunk(s, from, EVERY, Mode::Lenient)?;
+    let f = lax_last(s, c)?;
+    Ok((slots, b3d_judge_tally::plus(b, f)))
 }

@@ -1,4 +1,8 @@
 -- Items that stay: what each turn of `kept_items` makes of those that are left.
+use Rattle.layout.specs.Refused.{refusal_at}
+use Rattle.std.specs.Prelude.{Ok, Err}
+use Rattle.std.specs.Prelude as std
+use Rattle.layout.specs.declared.Refusal.{Refusal}
 use Prim.Native.Nat.{ℕ, zero, suc, ◌+◌, ◌-◌, ◌*◌, ◌<◌, ◌≤◌}
 use native.Mathlib.Omega.{arith}
 use native.Mathlib.Nat.{add-mul, zero-mul}
@@ -16,8 +20,6 @@ use Rattle.layout.specs.Rules.{Rule, any, names, holds}
 use Rattle.layout.proofs.StepLaws.{length-words-of, row_any, any-short, row_shrinks, items-none, items-step, Shrinks, words-add}
 use Rattle.shared_ids.specs.Ids.{first_bad, id_row}
 use Rattle.b3d_judge_items.specs.Items.{counted}
-use Rattle.b3d_judge_items.specs.declared.Counted.{Counted}
-use Rattle.b3d_judge_items.specs.declared.Counted.TheVariants as counts
 use Rattle.b3d_mend_spec.specs.Mend.{all_hold}
 use Rattle.b3d_mend_judge_items.specs.Lax.{kept, lax_items}
 use Rattle.b3d_mend_judge_items.specs.Ones.{one_if}
@@ -81,12 +83,12 @@ pub ruleset one_laws = (one_out, one_kept)
 -- ---- items
 
 -- so many items before others
-abbrev counted_from : ℕ → Result (List (List ℕ)) → Counted
-counted_from k (accept l) = counts.Accept (k + length l)
-counted_from k (reject n p) = counts.Reject n p
+abbrev counted_from : ℕ → Result (List (List ℕ)) → std.Result ℕ Refusal
+counted_from k (accept l) = Ok (k + length l)
+counted_from k (reject n p) = Err (refusal_at n p)
 
 from-none : (o : Result (List (List ℕ))) → counted o ≡ counted_from 0 o
-from-none (accept l) = let e : length l ≡ 0 + length l = omega arith in ap counts.Accept e
+from-none (accept l) = let e : length l ≡ 0 + length l = omega arith in ap Ok e
 from-none (reject n p) = refl
 
 kept_more : (rs : List Rule) (v : List ℕ) (l : List (List ℕ)) → length (kept rs (v ∷ l)) ≡ one_if (all_hold rs v) + length (kept rs l)
@@ -102,7 +104,7 @@ from_one : (k : ℕ) (rs : List Rule) (v : List ℕ) (o : Result (List (List ℕ
 from_one k rs v (accept l) =
     let q = kept_more rs v l in
     let e : k + length (kept rs (v ∷ l)) ≡ k + one_if (all_hold rs v) + length (kept rs l) = omega arith in
-    ap counts.Accept e
+    ap Ok e
 from_one k rs v (reject n p) = refl
 
 one-times : (g k : ℕ) → g ≤ 1 → g * k ≤ k
@@ -111,14 +113,14 @@ one-times (suc zero) k h = omega arith
 one-times (suc (suc g)) k h = absurd (omega arith)
 
 -- items have been passed from `from` up to a place, and so many stay; x is the answer
-pub record Keeping (s : List ℕ) (words : ℕ) (rs : List Rule) (from : Cursor) (x : Counted) (at count : ℕ) : Type 0 where
+pub record Keeping (s : List ℕ) (words : ℕ) (rs : List Rule) (from : Cursor) (x : std.Result ℕ Refusal) (at count : ℕ) : Type 0 where
   pub to : at ≤ from.end
   pub within : from.end ≤ length s
   pub few : from.at + count ≤ at
   pub passed : from.at + count * (4 * words) ≤ at
   pub rest : x ≡ counted_from count (lax_items rs at (left (span at from.end) s))
 
-module _ (s : List ℕ) (words : ℕ) (rs : List Rule) (from : Cursor) (x : Counted) where
+module _ (s : List ℕ) (words : ℕ) (rs : List Rule) (from : Cursor) (x : std.Result ℕ Refusal) where
   pub keep_none : Inside from (length s) → x ≡ counted (lax_items rs from.at (left from s)) → Keeping s words rs from x from.at 0
   keep_none i e = record {
     to = i.before;
@@ -135,7 +137,7 @@ module _ (s : List ℕ) (words : ℕ) (rs : List Rule) (from : Cursor) (x : Coun
     less : Shrinks (row (replicate (length rs) any))
     less = row_shrinks (replicate (length rs) any) (omega (arith, length-replicate (length rs) any))
 
-    pub keep_done : from.end ≤ at → counts.Accept count ≡ x
+    pub keep_done : from.end ≤ at → Ok count ≡ x
     unfolding lax_items kept
     keep_done h =
         let e : count + 0 ≡ count = omega arith in
@@ -146,7 +148,7 @@ module _ (s : List ℕ) (words : ℕ) (rs : List Rule) (from : Cursor) (x : Coun
           ≡ (row (replicate (length rs) any) at (left (span at from.end) s) >>= λ v. items (row (replicate (length rs) any)) v.place v.left >>= λ l. accept (v.value ∷ l))
       step = items-step (row (replicate (length rs) any)) less at (left (span at from.end) s) (omega (arith, left_here))
 
-      pub keep_cut : from.end - at < 4 * words → counts.Reject 5 at ≡ x
+      pub keep_cut : from.end - at < 4 * words → Err (refusal_at 5 at) ≡ x
       unfolding lax_items
       keep_cut q = sym (c.rest ∙ rw (step, any-short (length rs) at (left (span at from.end) s) (omega (arith, left_here, sum))))
 

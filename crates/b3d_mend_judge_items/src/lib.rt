@@ -15,10 +15,9 @@ ghost use Rattle.b3d_mend_spec.specs.Mend.{all_hold};
 ghost use Rattle.b3d_mend_judge_items.specs.Lax.{lax_items, lax_triangles, lax_bone};
 ghost use Rattle.b3d_mend_judge_items.specs.Ones.{one_if};
 
-use b3d_judge_items::Counted;
-use b3d_judge_tally::Judged;
-use layout::refusals;
-use wire::{Cursor, Header, Number};
+use b3d_judge_tally::Tally;
+use layout::{Refusal, refusals};
+use wire::{Cursor, Header};
 
 // Returns `from` without the 1 to 7 bytes after its last chunk; `from` itself where there are none, or where a chunk's length passes its end.
 pub fn trimmed(s: &[u8], from: Cursor) -> Cursor
@@ -61,7 +60,13 @@ pub fn kept_one(s: &[u8], c: Cursor, words: usize, ids: usize, limit: usize) -> 
 }
 
 // Counts the items of `words` words that `from` has left and that stay: the first `ids` words of each are below `limit`. Answers 5 at an item that is cut.
-fn kept_items(s: &[u8], from: Cursor, words: usize, ids: usize, limit: usize) -> Counted
+fn kept_items(
+    s: &[u8],
+    from: Cursor,
+    words: usize,
+    ids: usize,
+    limit: usize,
+) -> Result<usize, Refusal>
     requires { Inside from (length s.now) × (0 < words) × (words ≤ 64) × (ids ≤ words) }
     ensures { (result ≡ counted (lax_items (id_row ids (words - ids) limit) from.at (left from s.now))) × CountedIn from words result }
 {
@@ -71,36 +76,38 @@ fn kept_items(s: &[u8], from: Cursor, words: usize, ids: usize, limit: usize) ->
     let mut count: usize = 0;
     while at < end {
         if end - at < size {
-            return Counted::Reject(refusals::CUT_ITEM, at);
+            return Err(Refusal {
+                number: refusals::CUT_ITEM,
+                place: at,
+            });
         }
         let one = kept_one(s, Cursor { at, end }, words, ids, limit);
         at += size;
         count += one;
     }
-    Counted::Accept(count)
+    Ok(count)
 }
 
 // Judges the BONE whose header is at `at`: its weights that name one of `vertices` vertices are counted.
-pub fn lax_bone(s: &[u8], at: usize, body: Cursor, vertices: usize) -> Judged
+pub fn lax_bone(s: &[u8], at: usize, body: Cursor, vertices: usize) -> Result<Tally, Refusal>
     requires { Body at body (length s.now) }
     ensures { Judges bone_tally (lax_bone vertices at (left body s.now)) at body.end result }
 {
-    match kept_items(s, body, 2, 1, vertices) {
-        Counted::Reject(n, p) => Judged::Reject(n, p),
-        Counted::Accept(count) => Judged::Accept(b3d_judge_tally::weights(count)),
-    }
+    let count = kept_items(s, body, 2, 1, vertices)?;
+    Ok(b3d_judge_tally::weights(count))
 }
 
 // Judges the TRIS whose header is at `at`, whatever its brush: its triangles that name only the `vertices` vertices of the mesh are counted.
-pub fn lax_triangles(s: &[u8], at: usize, body: Cursor, vertices: usize) -> Judged
+pub fn lax_triangles(s: &[u8], at: usize, body: Cursor, vertices: usize) -> Result<Tally, Refusal>
     requires { Body at body (length s.now) }
     ensures { Judges set_tally (lax_triangles vertices at (left body s.now)) at body.end result }
 {
-    match body.number(s) {
-        Number::Cut => Judged::Reject(refusals::CUT_ITEM, body.at),
-        Number::Is(_, items) => match kept_items(s, items, 3, 3, vertices) {
-            Counted::Reject(n, p) => Judged::Reject(n, p),
-            Counted::Accept(count) => Judged::Accept(b3d_judge_tally::triangles(count)),
-        },
-    }
+    let Some((_, items)) = body.number(s) else {
+        return Err(Refusal {
+            number: refusals::CUT_ITEM,
+            place: body.at,
+        });
+    };
+    let count = kept_items(s, items, 3, 3, vertices)?;
+    Ok(b3d_judge_tally::triangles(count))
 }

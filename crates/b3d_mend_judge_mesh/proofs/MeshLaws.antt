@@ -1,4 +1,9 @@
 -- A law for each way through `lax_mesh`.
+use Rattle.layout.specs.Refused.{refusal_at}
+use Rattle.std.specs.Prelude.{Ok, Err, Some, None}
+use Rattle.std.specs.Prelude as std
+use Rattle.b3d_judge_tally.specs.declared.Tally.{Tally}
+use Rattle.layout.specs.declared.Refusal.{Refusal}
 use mathlib.Core.Path.{refl, ap, sym, ◌≡◌, ◌∙◌}
 use Prim.Native.Nat.{ℕ, ◌≤◌, ◌+◌, ◌-◌}
 use native.Mathlib.Omega.{arith}
@@ -6,8 +11,6 @@ use mathlib.Core.List.{List}
 use lib.ListN.{length}
 use Rattle.wire.specs.Cursors.{Inside, left, number_at}
 use Rattle.wire.specs.declared.Cursor.{Cursor}
-use Rattle.wire.specs.declared.Number.{Number}
-use Rattle.wire.specs.declared.Number.TheVariants as number
 use Rattle.layout.specs.Result.{Result, accept, reject, ◌>>=◌}
 use Rattle.layout.specs.Rules.{any}
 use Rattle.b3d_spec.specs.declared.Mode.TheVariants.{Lenient}
@@ -21,8 +24,6 @@ use Rattle.b3d_judge_tally.proofs.TallyLaws.{within_more}
 use Rattle.b3d_spec_chunk_places.specs.Places.{Body, rest_in, Among}
 use Rattle.b3d_spec_chunk_places.proofs.HeadLaws.{head_cut, head-numbered, head_got, body-inside}
 use Rattle.b3d_judge_mesh.specs.Answers.{meshed, MeshedIn, Meshes}
-use Rattle.b3d_judge_mesh.specs.declared.MeshSummary.{MeshSummary}
-use Rattle.b3d_judge_mesh.specs.declared.MeshSummary.TheVariants as meshes
 use Rattle.b3d_mend_judge_items.specs.Lax.{lax_inside, lax_sets, lax_mesh}
 use Rattle.b3d_mend_judge_items.specs.Trimmed.{Trimmed}
 use Rattle.b3d_mend_judge_mesh.specs.Parts.{lax_after, lax_within}
@@ -43,22 +44,22 @@ brush_free x y cs = go (read_one VRTS no_vertices (read_vertices Lenient) cs)
     go (reject n p) = refl
 
 -- the same answer in more bytes
-wider : (from to more : ℕ) (j : MeshSummary) → to ≤ more → MeshedIn from to j → MeshedIn from more j
-wider from to more (meshes.Accept k t) le h = within_more (to - from) (more - from) h (omega arith)
-wider from to more (meshes.Reject n p) le h = omega arith
+wider : (from to more : ℕ) (j : std.Result (ℕ × Tally) Refusal) → to ≤ more → MeshedIn from to j → MeshedIn from more j
+wider from to more (Ok (k, t)) le h = within_more (to - from) (more - from) h (omega arith)
+wider from to more (Err e) le h = omega arith
 
-module _ (s : List ℕ) (at : ℕ) (body : Cursor) (g : Body at body (length s)) (r : Number) (e : r ≡ number_at s body) where
-  abbrev Right : MeshSummary → Type 0
+module _ (s : List ℕ) (at : ℕ) (body : Cursor) (g : Body at body (length s)) (r : std.Option (ℕ × Cursor)) (e : r ≡ number_at s body) where
+  abbrev Right : std.Result (ℕ × Tally) Refusal → Type 0
   Right y = Meshes (lax_mesh at (left body s)) at body.end y
 
   pub mesh-inside : Inside body (length s)
   mesh-inside = body-inside s at body g
 
-  pub mesh-cut : r ≡ number.Cut → Right (meshes.Reject 5 body.at)
+  pub mesh-cut : r ≡ None → Right (Err (refusal_at 5 body.at))
   unfolding lax_mesh
   mesh-cut w = record { is = rw (head_cut s at body g r e any w); within = g.room }
 
-  module _ (k : ℕ) (c : Cursor) (w : r ≡ number.Is k c) where
+  module _ (k : ℕ) (c : Cursor) (w : r ≡ Some (k, c)) where
     pub mesh-after : Inside c (length s)
     mesh-after = let f = head-numbered s at body g r e k c w in record { before = omega arith; within = omega (arith, g.within) }
 
@@ -71,7 +72,7 @@ module _ (s : List ℕ) (at : ℕ) (body : Cursor) (g : Body at body (length s))
       pub mesh_far : at + 12 ≤ d.at
       mesh_far = let f = head-numbered s at body g r e k c w in omega (arith, g.head, x.same)
 
-      pub mesh-inner : (j : MeshSummary) → Meshes (lax_within 0 (rest_in s MESH at start d)) at d.end j → Right j
+      pub mesh-inner : (j : std.Result (ℕ × Tally) Refusal) → Meshes (lax_within 0 (rest_in s MESH at start d)) at d.end j → Right j
       unfolding lax_mesh lax_within lax_after lax_inside rest_in
       mesh-inner j hj =
           let f = head-numbered s at body g r e k c w in

@@ -1,4 +1,9 @@
 -- The loop of `lax_sets`, and `lax_inside`: a law for each way.
+use Rattle.std.specs.Prelude.{Ok, Err, Some, None}
+use Rattle.std.specs.Prelude as std
+use Rattle.layout.proofs.AnswerLaws.{pair_inj}
+use Rattle.layout.specs.declared.Refusal.{Refusal}
+use Rattle.b3d_chunk_next_allowed.specs.declared.Enclosed.{Enclosed}
 use mathlib.Core.Path.{◌≡◌, refl, ap, ap₂, sym, subst, ◌∙◌}
 use Prim.Native.Nat.{ℕ, ◌≤◌, ◌+◌, ◌-◌, ◌*◌}
 use native.Mathlib.Nat.{mul-le-mul_left}
@@ -29,14 +34,8 @@ use Rattle.b3d_spec_chunk_places.specs.Places.{Body, rest_in, Among}
 use Rattle.b3d_judge_tally.specs.Answers.{judged, JudgedIn, Judges, judged_from}
 use Rattle.b3d_judge_bodies.specs.Answers.{shaped, ShapedIn, Shapes}
 use Rattle.b3d_judge_tally.specs.declared.Tally.{Tally}
-use Rattle.b3d_judge_tally.specs.declared.Judged.{Judged}
-use Rattle.b3d_judge_tally.specs.declared.Judged.TheVariants as judge
-use Rattle.b3d_judge_bodies.specs.declared.VerticesSummary.{VerticesSummary}
-use Rattle.b3d_judge_bodies.specs.declared.VerticesSummary.TheVariants as shape
 use Rattle.b3d_judge_tally.proofs.TallyLaws.{within_more, within-plus, within-vertices}
 use Rattle.b3d_rule_nesting_order.specs.declared.Reached.{Reached as State}
-use Rattle.b3d_chunk_next_allowed.specs.declared.Enclosed.{Enclosed}
-use Rattle.b3d_chunk_next_allowed.specs.declared.Enclosed.TheVariants as enclosed
 use Rattle.b3d_rule_nesting_order.specs.Turns.{reached_of}
 use Rattle.b3d_chunk_next_allowed.specs.Steps.{EnclosedIs}
 use Rattle.b3d_chunk_next_allowed.proofs.InsideLaws.{step-among, step-turn, stop-before, end_next}
@@ -44,8 +43,6 @@ use Rattle.b3d_judge_bodies.proofs.ChunkLoopLaws.{Going, going_start, going-refu
 use Rattle.b3d_judge_mesh.specs.Answers.{meshed, MeshedIn, Meshes}
 use Rattle.b3d_mend_judge_items.specs.Lax.{lax_triangles, lax_sets}
 use Rattle.b3d_mend_judge_mesh.specs.Parts.{lax_after, lax_within}
-use Rattle.b3d_judge_mesh.specs.declared.MeshSummary.{MeshSummary}
-use Rattle.b3d_judge_mesh.specs.declared.MeshSummary.TheVariants as meshes
 use Rattle.b3d_judge_tally.proofs.AnswerLaws.{judged_bad, judged_good}
 use Rattle.b3d_judge_tally.proofs.ChainLaws.{judged-start, judged-more}
 use Rattle.b3d_chunk_next_allowed.proofs.RestLaws.{rest-done, rest-step, rest-stop, rest_end, step-body, among-inside, among-head}
@@ -63,52 +60,52 @@ unfolding sets_tally
 sets_more x l = refl
 
 module _ (s : List ℕ) (at vertices : ℕ) (from : Cursor) where
-  abbrev Sets : Judged → Type 0
+  abbrev Sets : std.Result Tally Refusal → Type 0
   Sets x = Judges sets_tally (lax_sets vertices (rest_in s MESH at (reached_at 1 true) from)) from.at from.end x
 
   pub setting_start : Among at from (length s) → (m : Tally) → m ≡ no_tally → Setting s at vertices from from (record { turn = 1; spent = true }) m
   setting_start g m e = record { going = going_start s at from m g e; so_far = rw e (judged-start sets_tally (lax_sets vertices (rest_in s MESH at (reached_at 1 true) from))) }
 
-  module _ (c : Cursor) (q : State) (m : Tally) (v : Setting s at vertices from c q m) (r : Enclosed) (x : EnclosedIs s MESH at q c r) where
-    refuse : (e i : ℕ) → lax_sets vertices (rest_in s MESH at (reached_of q) c) ≡ reject e i → i ≤ c.end → Sets (judge.Reject e i)
+  module _ (c : Cursor) (q : State) (m : Tally) (v : Setting s at vertices from c q m) (r : std.Result (std.Option Enclosed) Refusal) (x : EnclosedIs s MESH at q c r) where
+    refuse : (e : Refusal) → lax_sets vertices (rest_in s MESH at (reached_of q) c) ≡ reject e.number e.place → e.place ≤ c.end → Sets (Err e)
     refuse = going-refused s at from c m v.going sets_tally _ _ v.so_far
 
-    pub setting_stop : (e p : ℕ) → r ≡ enclosed.Reject e p → Sets (judge.Reject e p)
+    pub setting_stop : (e : Refusal) → r ≡ Err e → Sets (Err e)
     unfolding lax_sets
-    setting_stop e p w = refuse e p (rw (rest-stop s MESH at q c r x e p w)) (stop-before s MESH at q c r x e p w)
+    setting_stop e w = refuse e (rw (rest-stop s MESH at q c r x e w)) (stop-before s MESH at q c r x e w)
 
-    pub setting_end : r ≡ enclosed.End → Sets (judge.Accept m)
+    pub setting_end : r ≡ (Ok None) → Sets (Ok m)
     unfolding lax_sets sets_tally
     setting_end w =
         let none : lax_sets vertices (rest_in s MESH at (reached_of q) c) ≡ accept [] = rw (rest_end s MESH at q c r x w) in
         going_done s at from c m v.going sets_tally _ _ v.so_far [] none refl
 
-    module _ (t : Tag) (p : ℕ) (b n : Cursor) (z : State) (w : r ≡ enclosed.Chunk t p b n z) (j : Judged) (h : Judges set_tally (lax_triangles vertices p (left b s)) p b.end j) where
+    module _ (f : Enclosed) (w : r ≡ Ok (Some f)) (j : std.Result Tally Refusal) (h : Judges set_tally (lax_triangles vertices f.at (left f.body s)) f.at f.body.end j) where
       more : lax_sets vertices (rest_in s MESH at (reached_of q) c)
-          ≡ (lax_triangles vertices p (left b s) >>= λ i. lax_sets vertices (rest_in s MESH at (reached_of z) n) >>= λ l. accept (i ∷ l))
+          ≡ (lax_triangles vertices f.at (left f.body s) >>= λ i. lax_sets vertices (rest_in s MESH at (reached_of f.reached) f.next) >>= λ l. accept (i ∷ l))
       unfolding lax_sets
-      more = rw (rest-step s MESH at q c r x t p b n z w)
+      more = rw (rest-step s MESH at q c r x f w)
 
-      pub setting_bad : (e i : ℕ) → j ≡ judge.Reject e i → Sets (judge.Reject e i)
-      setting_bad e i y = refuse e i (rw (more, judged_bad set_tally (lax_triangles vertices p (left b s)) e i (sym h.is ∙ y))) (going-place s at from c m v.going MESH q r x t p b n z w set_tally _ j h e i y)
+      pub setting_bad : (e : Refusal) → j ≡ Err e → Sets (Err e)
+      setting_bad e y = refuse e (rw (more, judged_bad set_tally (lax_triangles vertices f.at (left f.body s)) e (sym h.is ∙ y))) (going-place s at from c m v.going MESH q r x f w set_tally _ j h e y)
 
-      pub setting_more : (k u : Tally) → j ≡ judge.Accept k → u ≡ plus m k → Setting s at vertices from n z u
+      pub setting_more : (k u : Tally) → j ≡ Ok k → u ≡ plus m k → Setting s at vertices from f.next f.reached u
       setting_more k u y e =
-          let g = judged_good set_tally (lax_triangles vertices p (left b s)) k (sym h.is ∙ y) in
+          let g = judged_good set_tally (lax_triangles vertices f.at (left f.body s)) k (sym h.is ∙ y) in
           record {
-            going = going_more s at from c m v.going MESH q r x t p b n z w set_tally _ j h k u y e;
+            going = going_more s at from c m v.going MESH q r x f w set_tally _ j h k u y e;
             so_far =
                 v.so_far ∙ ap (judged_from m sets_tally) more
-                ∙ judged-more set_tally sets_tally (λ i l. i ∷ l) sets_more (lax_triangles vertices p (left b s)) k g m u e (lax_sets vertices (rest_in s MESH at (reached_of z) n));
+                ∙ judged-more set_tally sets_tally (λ i l. i ∷ l) sets_more (lax_triangles vertices f.at (left f.body s)) k g m u e (lax_sets vertices (rest_in s MESH at (reached_of f.reached) f.next));
           }
 
 pub ruleset setting = (setting_start, setting_stop, setting_end, setting_bad, setting_more, going)
 
 -- ---- the chunks inside a mesh
 
-shaped-bad : (o : Result Vertices) (e q : ℕ) → shaped o ≡ shape.Reject e q → o ≡ reject e q
-shaped-bad (accept v) e q h = let z : ◌≡◌ {A = ℕ} 0 1 = cc in absurd (omega arith)
-shaped-bad (reject n p) e q h = cc
+shaped-bad : (o : Result Vertices) (e : Refusal) → shaped o ≡ Err e → o ≡ reject e.number e.place
+shaped-bad (accept v) e h = let z : ◌≡◌ {A = ℕ} 0 1 = cc in absurd (omega arith)
+shaped-bad (reject n p) e h = cc
 
 record GaveShape (o : Result Vertices) (k words : ℕ) : Type 0 where
   value : Vertices
@@ -116,8 +113,8 @@ record GaveShape (o : Result Vertices) (k words : ℕ) : Type 0 where
   many : k ≡ length value.items
   wide : words ≡ vertex_words value.flags value.sets value.size
 
-shaped-good : (o : Result Vertices) (k words : ℕ) → shaped o ≡ shape.Accept k words → GaveShape o k words
-shaped-good (accept v) k words h = record { value = v; is = refl; many = cc; wide = cc }
+shaped-good : (o : Result Vertices) (k words : ℕ) → shaped o ≡ Ok (k, words) → GaveShape o k words
+shaped-good (accept v) k words h = let p = pair_inj _ _ _ _ (sym h) in record { value = v; is = refl; many = p.0; wide = p.1 }
 shaped-good (reject n p) k words h = let z : ◌≡◌ {A = ℕ} 0 1 = cc in absurd (omega arith)
 
 -- what is made of sets, by a shape
@@ -125,17 +122,17 @@ abbrev made_of : Vertices → Result (List TriangleSet) → Result Mesh
 made_of v o = o >>= λ l. accept (record { brush = 0; flags = v.flags; sets = v.sets; size = v.size; vertices = v.items; triangle_sets = l })
 
 module _ (s : List ℕ) (at p : ℕ) (b n : Cursor) (gb : Body p b (length s)) (gn : Among at n (length s)) (far : at + 12 ≤ p) (join : b.end ≡ n.at)
-    (j : VerticesSummary) (h : Shapes (read_vertices Lenient p (left b s)) b j) where
-  abbrev Shape-right : MeshSummary → Type 0
+    (j : std.Result (ℕ × ℕ) Refusal) (h : Shapes (read_vertices Lenient p (left b s)) b j) where
+  abbrev Shape-right : std.Result (ℕ × Tally) Refusal → Type 0
   Shape-right y = Meshes (lax_after 0 (read_vertices Lenient p (left b s)) (rest_in s MESH at (reached_at 1 true) n)) at n.end y
 
-  pub shape-bad : (e i : ℕ) → j ≡ shape.Reject e i → Shape-right (meshes.Reject e i)
+  pub shape-bad : (e : Refusal) → j ≡ Err e → Shape-right (Err e)
   unfolding lax_after
-  shape-bad e i z =
-      let le : i ≤ b.end = subst (ShapedIn b) z h.within in
-      record { is = rw (shaped-bad (read_vertices Lenient p (left b s)) e i (sym h.is ∙ z)); within = omega (arith, gn.room) }
+  shape-bad e z =
+      let le : e.place ≤ b.end = subst (ShapedIn b) z h.within in
+      record { is = rw (shaped-bad (read_vertices Lenient p (left b s)) e (sym h.is ∙ z)); within = omega (arith, gn.room) }
 
-  module _ (k words : ℕ) (z : j ≡ shape.Accept k words) where
+  module _ (k words : ℕ) (z : j ≡ Ok (k, words)) where
     room : (12 + k * (4 * words) ≤ b.end - b.at) × (3 ≤ words) × (words ≤ 42)
     room = subst (ShapedIn b) z h.within
 
@@ -151,7 +148,7 @@ module _ (s : List ℕ) (at p : ℕ) (b n : Cursor) (gb : Body p b (length s)) (
     gave : GaveShape (read_vertices Lenient p (left b s)) k words
     gave = shaped-good (read_vertices Lenient p (left b s)) k words (sym h.is ∙ z)
 
-    module _ (i : Judged) (hi : Judges sets_tally (lax_sets k (rest_in s MESH at (reached_at 1 true) n)) n.at n.end i) where
+    module _ (i : std.Result Tally Refusal) (hi : Judges sets_tally (lax_sets k (rest_in s MESH at (reached_at 1 true) n)) n.at n.end i) where
       sets-read : lax_after 0 (read_vertices Lenient p (left b s)) (rest_in s MESH at (reached_at 1 true) n) ≡ made_of gave.value (lax_sets k (rest_in s MESH at (reached_at 1 true) n))
       unfolding lax_after
       sets-read =
@@ -159,13 +156,13 @@ module _ (s : List ℕ) (at p : ℕ) (b n : Cursor) (gb : Body p b (length s)) (
           ap (λ (o : Result Vertices). o >>= λ v. made_of v (lax_sets (length v.items) (rest_in s MESH at (reached_at 1 true) n))) v.is
           ∙ ap (λ (m : ℕ). made_of v.value (lax_sets m (rest_in s MESH at (reached_at 1 true) n))) (sym v.many)
 
-      pub shape-sets-bad : (e c : ℕ) → i ≡ judge.Reject e c → Shape-right (meshes.Reject e c)
-      shape-sets-bad e c y = record {
-        is = rw (sets-read, judged_bad sets_tally (lax_sets k (rest_in s MESH at (reached_at 1 true) n)) e c (sym hi.is ∙ y));
+      pub shape-sets-bad : (e : Refusal) → i ≡ Err e → Shape-right (Err e)
+      shape-sets-bad e y = record {
+        is = rw (sets-read, judged_bad sets_tally (lax_sets k (rest_in s MESH at (reached_at 1 true) n)) e (sym hi.is ∙ y));
         within = subst (JudgedIn n.at n.end) y hi.within;
       }
 
-      module _ (u : Tally) (y : i ≡ judge.Accept u) where
+      module _ (u : Tally) (y : i ≡ Ok u) where
         tail : Within u (n.end - n.at)
         tail = subst (JudgedIn n.at n.end) y hi.within
 
@@ -178,7 +175,7 @@ module _ (s : List ℕ) (at p : ℕ) (b n : Cursor) (gb : Body p b (length s)) (
         pub shape-vertices-small : Within (vertices_tally k words) most_bytes
         shape-vertices-small = within_more (n.at - at) most_bytes first (omega (arith, gn.room, gn.within, gn.small))
 
-        pub shape-good : (m : Tally) → m ≡ plus (vertices_tally k words) u → Shape-right (meshes.Accept k m)
+        pub shape-good : (m : Tally) → m ≡ plus (vertices_tally k words) u → Shape-right (Ok (k, m))
         unfolding mesh_tally
         shape-good m e =
             let v = gave in
@@ -190,8 +187,8 @@ module _ (s : List ℕ) (at p : ℕ) (b n : Cursor) (gb : Body p b (length s)) (
               within = rw e (within-plus (vertices_tally k words) u (n.at - at) (n.end - n.at) (n.end - at) first tail (omega (arith, gn.head, gn.room)));
             }
           where
-            made : (q : Mesh) → k ≡ length q.vertices → m ≡ plus (vertices_tally (length q.vertices) (vertex_words q.flags q.sets q.size)) (sets_tally q.triangle_sets) → meshes.Accept k m ≡ meshed (accept q)
-            made q ek em = ap₂ meshes.Accept ek em
+            made : (q : Mesh) → k ≡ length q.vertices → m ≡ plus (vertices_tally (length q.vertices) (vertex_words q.flags q.sets q.size)) (sets_tally q.triangle_sets) → Ok (k, m) ≡ meshed (accept q)
+            made q ek em = ap₂ (λ a b. Ok (a, b)) ek em
 
 pub ruleset shape_laws = (shape-bad, shape-few, shape-wide, shape-sets-bad, shape-sets-small, shape-vertices-small, shape-good)
 
@@ -202,48 +199,48 @@ first-turn t z =
     by-tag (λ t. next_turn (nesting MESH) (nesting MESH) start t ≡ some (reached_of z) → (t ≡ VRTS) × (reached_of z ≡ reached_at 1 true))
     (never, never, never, never, never, (λ h. (refl, some_inj h)), never, never, never, never) t
 
-module _ (s : List ℕ) (at : ℕ) (from : Cursor) (g : Among at from (length s)) (far : at + 12 ≤ from.at) (r : Enclosed) (x : EnclosedIs s MESH at (record { turn = 0; spent = false }) from r) where
-  abbrev Inside-mesh : MeshSummary → Type 0
+module _ (s : List ℕ) (at : ℕ) (from : Cursor) (g : Among at from (length s)) (far : at + 12 ≤ from.at) (r : std.Result (std.Option Enclosed) Refusal) (x : EnclosedIs s MESH at (record { turn = 0; spent = false }) from r) where
+  abbrev Inside-mesh : std.Result (ℕ × Tally) Refusal → Type 0
   Inside-mesh y = Meshes (lax_within 0 (rest_in s MESH at start from)) at from.end y
 
-  pub inside-stop : (e p : ℕ) → r ≡ enclosed.Reject e p → Inside-mesh (meshes.Reject e p)
+  pub inside-stop : (e : Refusal) → r ≡ Err e → Inside-mesh (Err e)
   unfolding lax_within read_one
-  inside-stop e p w = record {
-    is = rw (rest-stop s MESH at (record { turn = 0; spent = false }) from r x e p w);
-    within = stop-before s MESH at (record { turn = 0; spent = false }) from r x e p w;
+  inside-stop e w = record {
+    is = rw (rest-stop s MESH at (record { turn = 0; spent = false }) from r x e w);
+    within = stop-before s MESH at (record { turn = 0; spent = false }) from r x e w;
   }
 
   -- it owes its VRTS
-  pub inside-end : r ≡ enclosed.End → (y : MeshSummary) → Inside-mesh y
+  pub inside-end : r ≡ (Ok None) → (y : std.Result (ℕ × Tally) Refusal) → Inside-mesh y
   unfolding order if
   inside-end w y =
       let n = end_next s MESH at (record { turn = 0; spent = false }) from r x w in
       let e : stop 8 at ≡ done = sym (rest-done s from next.Done n MESH at start refl) ∙ rest_end s MESH at (record { turn = 0; spent = false }) from r x w in
       let z : ◌≡◌ {A = ℕ} 0 1 = cc in absurd (omega arith)
 
-  module _ (t : Tag) (p : ℕ) (b n : Cursor) (z : State) (w : r ≡ enclosed.Chunk t p b n z) where
-    among : Chunked from p b n
-    among = step-among s MESH at (record { turn = 0; spent = false }) from r x t p b n z w
+  module _ (d : Enclosed) (w : r ≡ Ok (Some d)) where
+    among : Chunked from d.at d.body d.next
+    among = step-among s MESH at (record { turn = 0; spent = false }) from r x d w
 
-    pub inside-body : Body p b (length s)
-    inside-body = step-body s MESH at (record { turn = 0; spent = false }) from r x at g t p b n z w
+    pub inside-body : Body d.at d.body (length s)
+    inside-body = step-body s MESH at (record { turn = 0; spent = false }) from r x at g d w
 
-    pub inside-among : Among at n (length s)
+    pub inside-among : Among at d.next (length s)
     inside-among = let f = among in record { head = omega (arith, g.head); room = f.to; within = omega (arith, g.within); small = g.small }
 
-    pub inside_far : at + 12 ≤ p
+    pub inside_far : at + 12 ≤ d.at
     inside_far = let f = among in omega arith
 
-    pub inside-join : b.end ≡ n.at
+    pub inside-join : d.body.end ≡ d.next.at
     inside-join = sym among.after
 
-    pub inside-shape : (y : MeshSummary) → Meshes (lax_after 0 (read_vertices Lenient p (left b s)) (rest_in s MESH at (reached_at 1 true) n)) at n.end y → Inside-mesh y
+    pub inside-shape : (y : std.Result (ℕ × Tally) Refusal) → Meshes (lax_after 0 (read_vertices Lenient d.at (left d.body s)) (rest_in s MESH at (reached_at 1 true) d.next)) at d.next.end y → Inside-mesh y
     unfolding lax_within lax_after read_one if
     inside-shape y m =
         let f = among in
-        let u = first-turn t z (step-turn s MESH at (record { turn = 0; spent = false }) from r x t p b n z w) in
-        let opened : lax_within 0 (rest_in s MESH at start from) ≡ lax_after 0 (read_vertices Lenient p (left b s)) (rest_in s MESH at (reached_at 1 true) n) =
-        rw (rest-step s MESH at (record { turn = 0; spent = false }) from r x t p b n z w, u.0, u.1) (bind_bind (read_vertices Lenient p (left b s)) _ _) in
+        let u = first-turn d.tag d.reached (step-turn s MESH at (record { turn = 0; spent = false }) from r x d w) in
+        let opened : lax_within 0 (rest_in s MESH at start from) ≡ lax_after 0 (read_vertices Lenient d.at (left d.body s)) (rest_in s MESH at (reached_at 1 true) d.next) =
+        rw (rest-step s MESH at (record { turn = 0; spent = false }) from r x d w, u.0, u.1) (bind_bind (read_vertices Lenient d.at (left d.body s)) _ _) in
         record {
           is = m.is ∙ ap meshed (sym opened);
           within = subst (λ (e : ℕ). MeshedIn at e y) f.same m.within;

@@ -15,13 +15,11 @@ ghost use Rattle.b3d_mend_judge_items.specs.Lax.{lax_sets, lax_mesh};
 ghost use Rattle.b3d_mend_judge_mesh.specs.Parts.{lax_after, lax_within};
 
 use b3d_chunk_next_allowed::Enclosed;
-use b3d_judge_bodies::VerticesSummary;
-use b3d_judge_mesh::MeshSummary;
-use b3d_judge_tally::Judged;
+use b3d_judge_tally::Tally;
 use b3d_rule_nesting_order::Reached;
 use b3d_spec::{Mode, Tag};
-use layout::refusals;
-use wire::{Cursor, Number};
+use layout::{Refusal, refusals};
+use wire::Cursor;
 
 // How far the chunks of a mesh have come after its VRTS.
 const VRTS_READ: Reached = Reached {
@@ -30,7 +28,7 @@ const VRTS_READ: Reached = Reached {
 };
 
 // Judges the TRIS chunks of a mesh of `vertices` vertices whose header is at `at`: one or more.
-fn lax_sets(s: &[u8], at: usize, from: Cursor, vertices: usize) -> Judged
+fn lax_sets(s: &[u8], at: usize, from: Cursor, vertices: usize) -> Result<Tally, Refusal>
     requires { Among at from (length s.now) }
     ensures { Judges sets_tally (lax_sets vertices (rest_in s.now MESH at (reached_at 1 true) from)) from.at from.end result }
 {
@@ -39,77 +37,74 @@ fn lax_sets(s: &[u8], at: usize, from: Cursor, vertices: usize) -> Judged
     let mut m = b3d_judge_tally::none();
     loop {
         let found = b3d_chunk_cursor::next_chunk(s, c);
-        match b3d_chunk_next_allowed::next_inside(s, c, found, Tag::MESH, at, q) {
-            Enclosed::End => {
-                return Judged::Accept(m);
-            }
-            Enclosed::Reject(e, p) => {
-                return Judged::Reject(e, p);
-            }
-            Enclosed::Chunk {
+        let Some(
+            Enclosed {
                 at: p,
                 body,
                 next,
                 reached,
                 ..
-            } => match b3d_mend_judge_items::lax_triangles(s, p, body, vertices) {
-                Judged::Reject(e, i) => {
-                    return Judged::Reject(e, i);
-                }
-                Judged::Accept(t) => {
-                    m = b3d_judge_tally::plus(m, t);
-                    q = reached;
-                    c = next;
-                }
             },
-        }
+        ) = b3d_chunk_next_allowed::next_inside(s, c, found, Tag::MESH, at, q)?
+        else {
+            return Ok(m);
+        };
+        let t = b3d_mend_judge_items::lax_triangles(s, p, body, vertices)?;
+        m = b3d_judge_tally::plus(m, t);
+        q = reached;
+        c = next;
     }
 }
 
 // Judges a VRTS whose header is at `p`, and the TRIS chunks from `next` on, of a mesh whose header is at `at`.
-fn lax_shape(s: &[u8], at: usize, p: usize, body: Cursor, next: Cursor) -> MeshSummary
+fn lax_shape(
+    s: &[u8],
+    at: usize,
+    p: usize,
+    body: Cursor,
+    next: Cursor,
+) -> Result<(usize, Tally), Refusal>
     requires { Body p body (length s.now) × Among at next (length s.now) × (at + 12 ≤ p) × (body.end ≡ next.at) }
     ensures { Meshes (lax_after 0 (read_vertices Lenient p (left body s.now))
         (rest_in s.now MESH at (reached_at 1 true) next)) at next.end result }
 {
-    match b3d_judge_bodies::judge_vertices(s, p, body, Mode::Lenient) {
-        VerticesSummary::Reject(e, q) => MeshSummary::Reject(e, q),
-        VerticesSummary::Accept(n, words) => match lax_sets(s, at, next, n) {
-            Judged::Reject(e, q) => MeshSummary::Reject(e, q),
-            Judged::Accept(t) => MeshSummary::Accept(n, b3d_judge_mesh::mesh_rows(n, words, t)),
-        },
-    }
+    let (n, words) = b3d_judge_bodies::judge_vertices(s, p, body, Mode::Lenient)?;
+    let t = lax_sets(s, at, next, n)?;
+    Ok((n, b3d_judge_mesh::mesh_rows(n, words, t)))
 }
 
 // Judges the VRTS and the TRIS chunks of a mesh whose header is at `at`, from its first chunk on.
-fn lax_inside(s: &[u8], at: usize, from: Cursor) -> MeshSummary
+fn lax_inside(s: &[u8], at: usize, from: Cursor) -> Result<(usize, Tally), Refusal>
     requires { Among at from (length s.now) × (at + 12 ≤ from.at) }
     ensures { Meshes (lax_within 0 (rest_in s.now MESH at start from)) at from.end result }
 {
     let found = b3d_chunk_cursor::next_chunk(s, from);
-    match b3d_chunk_next_allowed::first_inside(s, from, found, Tag::MESH, at) {
-        // No mesh ends here: it owes its VRTS.
-        Enclosed::End => MeshSummary::Accept(0, b3d_judge_tally::none()),
-        Enclosed::Reject(e, p) => MeshSummary::Reject(e, p),
-        Enclosed::Chunk {
+    // No mesh ends here: it owes its VRTS.
+    let Some(
+        Enclosed {
             at: p,
             body,
             next,
             ..
-        } => lax_shape(s, at, p, body, next),
-    }
+        },
+    ) = b3d_chunk_next_allowed::first_inside(s, from, found, Tag::MESH, at)?
+    else {
+        return Ok((0, b3d_judge_tally::none()));
+    };
+    lax_shape(s, at, p, body, next)
 }
 
 // Judges the MESH whose header is at `at`: its brush id, whatever it is, then the chunks inside it without spare bytes.
-pub fn lax_mesh(s: &[u8], at: usize, body: Cursor) -> MeshSummary
+pub fn lax_mesh(s: &[u8], at: usize, body: Cursor) -> Result<(usize, Tally), Refusal>
     requires { Body at body (length s.now) }
     ensures { Meshes (lax_mesh at (left body s.now)) at body.end result }
 {
-    match body.number(s) {
-        Number::Cut => MeshSummary::Reject(refusals::CUT_ITEM, body.at),
-        Number::Is(_, c) => {
-            let d = b3d_mend_judge_items::trimmed(s, c);
-            lax_inside(s, at, d)
-        }
-    }
+    let Some((_, c)) = body.number(s) else {
+        return Err(Refusal {
+            number: refusals::CUT_ITEM,
+            place: body.at,
+        });
+    };
+    let d = b3d_mend_judge_items::trimmed(s, c);
+    lax_inside(s, at, d)
 }

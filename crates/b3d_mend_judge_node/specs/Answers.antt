@@ -1,5 +1,7 @@
 -- A node as it is mended, without the nodes below it, and what is answered of it.
-use Rattle.std.specs.Prelude.{◌≡◌, ℕ, ◌≤◌, ◌+◌, ◌-◌, List}
+use Rattle.std.specs.Prelude as std
+use Rattle.layout.specs.declared.Refusal.{Refusal}
+use Rattle.std.specs.Prelude.{◌≡◌, ℕ, ◌≤◌, ◌+◌, ◌-◌, List, Ok, Err}
 use Rattle.std.proofs.Math.Option.{Option}
 use Rattle.wire.specs.declared.Cursor.{Cursor}
 use Rattle.layout.specs.Result.{Result, accept, ◌>>=◌}
@@ -12,8 +14,6 @@ use Rattle.b3d_spec.specs.Parse.{Animation, read_animation}
 use Rattle.b3d_judge_tally.specs.Tally.{Within}
 use Rattle.b3d_judge_tally.specs.declared.Tally.{Tally}
 use Rattle.b3d_judge_node.specs.Answers.{owned, owned_by}
-use Rattle.b3d_judge_node.specs.declared.NodeSummary.{NodeSummary}
-use Rattle.b3d_judge_node.specs.declared.NodeSummary.TheVariants as own
 use Rattle.b3d_mend_judge_items.specs.Lax.{lax_inside, lax_kind}
 
 -- the chunks inside a NODE up to the nodes below it: its kind, its KEYS and ANIM, and the chunks that are left
@@ -42,10 +42,11 @@ pub record Ahead (at end : ℕ) (c : Cursor) (t : Tally) : Type 0 where
   pub before : c.end ≤ end
   pub within : Within t (c.at - at)
 
-abbrev pub OwnedIn : ℕ → ℕ → NodeSummary → Type 0
-OwnedIn at end (own.Accept a t c) = Ahead at end c t
-OwnedIn at end (own.Reject n p) = p ≤ end
+abbrev pub OwnedIn : ℕ → ℕ → std.Result (std.Option ℕ × Tally × Cursor) Refusal → Type 0
+OwnedIn at end (Ok (a, t, c)) = Ahead at end c t
+OwnedIn at end (Err e) = e.place ≤ end
 
-pub record Owns (a : Option ℕ) (o : Result (Found Data)) (rest : Cursor → Chunks) (at end : ℕ) (r : NodeSummary) : Type 0 where
+pub record Owns (a : Option ℕ) (o : Result (Found Data)) (rest : Cursor → Chunks) (at end : ℕ)
+    (r : std.Result (std.Option ℕ × Tally × Cursor) Refusal) : Type 0 where
   pub is : owned_by rest r ≡ owned a o
   pub within : OwnedIn at end r

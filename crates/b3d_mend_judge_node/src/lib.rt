@@ -13,73 +13,84 @@ ghost use Rattle.b3d_mend_judge_node.specs.Answers.{lax_parts, lax_own, Owns};
 
 use b3d_chunk_cursor::Named;
 use b3d_chunk_next_allowed::Enclosed;
-use b3d_judge_animation::Motion;
-use b3d_judge_mesh::MeshSummary;
-use b3d_judge_node::{Above, KindSummary, NodeSummary};
-use b3d_judge_tally::Judged;
+use b3d_judge_tally::Tally;
 use b3d_spec::Tag;
-use layout::refusals;
+use layout::{Refusal, refusals};
 use wire::Cursor;
 
 // Judges a MESH or a BONE, if one comes first in a NODE whose header is at `at`; weights may name `bones` vertices.
-fn lax_kind(s: &[u8], at: usize, from: Cursor, bones: usize) -> KindSummary
+fn lax_kind(
+    s: &[u8],
+    at: usize,
+    from: Cursor,
+    bones: usize,
+) -> Result<(usize, Tally, Cursor), Refusal>
     requires { Among at from (length s.now) }
     ensures { Kinds (lax_kind bones (rest_in s.now NODE at start from)) (rest_in s.now NODE at (reached_at 2 false)) from result }
 {
     let found = b3d_chunk_cursor::next_chunk(s, from);
-    match b3d_chunk_next_allowed::first_inside(s, from, found, Tag::NODE, at) {
-        Enclosed::End => KindSummary::Accept(0, b3d_judge_tally::none(), from),
-        Enclosed::Reject(e, p) => KindSummary::Reject(e, p),
-        Enclosed::Chunk {
+    let Some(
+        Enclosed {
             tag,
             at: p,
             body,
             next,
             ..
-        } => match tag {
-            Tag::MESH => match b3d_mend_judge_mesh::lax_mesh(s, p, body) {
-                MeshSummary::Reject(e, q) => KindSummary::Reject(e, q),
-                MeshSummary::Accept(own, t) => KindSummary::Accept(own, t, next),
-            },
-            Tag::BONE => match b3d_mend_judge_items::lax_bone(s, p, body, bones) {
-                Judged::Reject(e, q) => KindSummary::Reject(e, q),
-                Judged::Accept(t) => KindSummary::Accept(0, t, next),
-            },
-            _ => KindSummary::Accept(0, b3d_judge_tally::none(), from),
         },
+    ) = b3d_chunk_next_allowed::first_inside(s, from, found, Tag::NODE, at)?
+    else {
+        return Ok((0, b3d_judge_tally::none(), from));
+    };
+    match tag {
+        Tag::MESH => {
+            let (own, t) = b3d_mend_judge_mesh::lax_mesh(s, p, body)?;
+            Ok((own, t, next))
+        }
+        Tag::BONE => {
+            let t = b3d_mend_judge_items::lax_bone(s, p, body, bones)?;
+            Ok((0, t, next))
+        }
+        _ => Ok((0, b3d_judge_tally::none(), from)),
     }
 }
 
 // Judges the chunks of a NODE whose header is at `at` up to the nodes below it.
-fn lax_parts(s: &[u8], at: usize, from: Cursor, above: Above) -> NodeSummary
+fn lax_parts(
+    s: &[u8],
+    at: usize,
+    from: Cursor,
+    above: Option<usize>,
+) -> Result<(Option<usize>, Tally, Cursor), Refusal>
     requires { Among at from (length s.now) × (at + 49 ≤ from.at) }
     ensures { Parted (above_of above) (lax_parts (bone_limit (above_of above)) (rest_in s.now NODE at start from))
         (rest_in s.now NODE at (reached_at 3 false)) at from result }
 {
-    match lax_kind(s, at, from, b3d_judge_node::bone_vertices(above)) {
-        KindSummary::Reject(e, q) => NodeSummary::Reject(e, q),
-        KindSummary::Accept(own, k, c) => match b3d_judge_animation::judge_animation(s, at, c) {
-            Motion::Reject(e, q) => NodeSummary::Reject(e, q),
-            Motion::Accept(anim, m, d) => NodeSummary::Accept(
-                b3d_judge_node::bones_below(above, anim, own),
-                b3d_judge_node::own_rows(k, m),
-                d,
-            ),
-        },
-    }
+    let (own, k, c) = lax_kind(s, at, from, b3d_judge_node::bone_vertices(above))?;
+    let (anim, m, d) = b3d_judge_animation::judge_animation(s, at, c)?;
+    Ok((
+        b3d_judge_node::bones_below(above, anim, own),
+        b3d_judge_node::own_rows(k, m),
+        d,
+    ))
 }
 
 // Judges a NODE whose header is at `at`, without spare bytes and without the nodes below it.
-pub fn lax_own(s: &[u8], at: usize, body: Cursor, above: Above) -> NodeSummary
+pub fn lax_own(
+    s: &[u8],
+    at: usize,
+    body: Cursor,
+    above: Option<usize>,
+) -> Result<(Option<usize>, Tally, Cursor), Refusal>
     requires { Body at body (length s.now) }
     ensures { Owns (above_of above) (lax_own (above_of above) at (left body s.now))
         (rest_in s.now NODE at (reached_at 3 false)) at body.end result }
 {
-    match b3d_chunk_cursor::named_row(s, body, 10) {
-        Named::Cut => NodeSummary::Reject(refusals::CUT_ITEM, body.at),
-        Named::Is { next, .. } => {
-            let d = b3d_mend_judge_items::trimmed(s, next);
-            lax_parts(s, at, d, above)
-        }
-    }
+    let Some(Named { next, .. }) = b3d_chunk_cursor::named_row(s, body, 10) else {
+        return Err(Refusal {
+            number: refusals::CUT_ITEM,
+            place: body.at,
+        });
+    };
+    let d = b3d_mend_judge_items::trimmed(s, next);
+    lax_parts(s, at, d, above)
 }

@@ -1,4 +1,9 @@
 -- A law for each way through `lax_node`, and through the loop of `lax_nodes`.
+use Rattle.layout.specs.Refused.{refusal_at}
+use Rattle.std.specs.Prelude.{Ok, Err, Some, None}
+use Rattle.std.specs.Prelude as std
+use Rattle.layout.specs.declared.Refusal.{Refusal}
+use Rattle.b3d_chunk_next_allowed.specs.declared.Enclosed.{Enclosed}
 use mathlib.Core.Path.{◌≡◌, refl, ap, ap₂, sym, subst, ◌∙◌}
 use Prim.Native.Nat.{ℕ, zero, suc, ◌≤◌, ◌+◌, ◌-◌}
 use native.Mathlib.Omega.{arith}
@@ -23,21 +28,14 @@ use Rattle.b3d_judge_tally.specs.Tally.{no_tally, data_tally, forest_tally, inne
 use Rattle.b3d_spec_chunk_places.specs.Places.{Body, rest_in, Among}
 use Rattle.b3d_judge_tally.specs.Answers.{judged, JudgedIn, Judges, judged_from}
 use Rattle.b3d_judge_tally.specs.declared.Tally.{Tally}
-use Rattle.b3d_judge_tally.specs.declared.Judged.{Judged}
-use Rattle.b3d_judge_tally.specs.declared.Judged.TheVariants as judge
 use Rattle.b3d_judge_tally.proofs.TallyLaws.{within_more, within-plus}
 use Rattle.b3d_rule_nesting_order.specs.declared.Reached.{Reached as State}
-use Rattle.b3d_chunk_next_allowed.specs.declared.Enclosed.{Enclosed}
-use Rattle.b3d_chunk_next_allowed.specs.declared.Enclosed.TheVariants as enclosed
 use Rattle.b3d_rule_nesting_order.specs.Turns.{reached_of}
 use Rattle.b3d_chunk_next_allowed.specs.Steps.{EnclosedIs}
 use Rattle.b3d_chunk_next_allowed.proofs.InsideLaws.{stop-before}
 use Rattle.b3d_judge_node.specs.Answers.{above_of, owned, owned_by}
 use Rattle.b3d_mend_judge_items.specs.Lax.{lax_inside, lax_kind, lax_node}
 use Rattle.b3d_mend_judge_node.specs.Answers.{lax_own, Ahead, OwnedIn, Owns}
-use Rattle.b3d_judge_node.specs.declared.Above.{Above}
-use Rattle.b3d_judge_node.specs.declared.NodeSummary.{NodeSummary}
-use Rattle.b3d_judge_node.specs.declared.NodeSummary.TheVariants as own
 use Rattle.b3d_judge_tally.proofs.AnswerLaws.{GaveBeside, beside_bad, beside_good, judged_bad, judged_good}
 use Rattle.b3d_judge_tally.proofs.ChainLaws.{judged-start, judged-more}
 use Rattle.b3d_chunk_next_allowed.proofs.RestLaws.{rest-step, rest-stop, rest_end}
@@ -61,13 +59,13 @@ node_open (suc l) a p b d =
 
 -- ---- what `lax_own` says
 
-pub owns-at : (a : Option ℕ) (o : Result (Found Data)) (rest : Cursor → Chunks) (at end : ℕ) (k : NodeSummary) → Owns a o rest at end k → {x : NodeSummary} → k ≡ x → owned_by rest x ≡ owned a o
-owns-at a o rest at end k h z = subst (λ (x : NodeSummary). owned_by rest x ≡ owned a o) z h.is
+pub owns-at : (a : Option ℕ) (o : Result (Found Data)) (rest : Cursor → Chunks) (at end : ℕ) (k : std.Result (std.Option ℕ × Tally × Cursor) Refusal) → Owns a o rest at end k → {x : (std.Result (std.Option ℕ × Tally × Cursor) Refusal)} → k ≡ x → owned_by rest x ≡ owned a o
+owns-at a o rest at end k h z = subst (λ (x : std.Result (std.Option ℕ × Tally × Cursor) Refusal). owned_by rest x ≡ owned a o) z h.is
 
 -- ---- the ways through a node
 
-module _ (s : List ℕ) (at : ℕ) (body : Cursor) (g : Body at body (length s)) (a : Option ℕ) (j : NodeSummary)
-    (h : Owns a (lax_own a at (left body s)) (rest_in s NODE at (reached_at 3 false)) at body.end j) (b : Above) (t : Tally) (c : Cursor) (z : j ≡ own.Accept b t c) where
+module _ (s : List ℕ) (at : ℕ) (body : Cursor) (g : Body at body (length s)) (a : Option ℕ) (j : std.Result (std.Option ℕ × Tally × Cursor) Refusal)
+    (h : Owns a (lax_own a at (left body s)) (rest_in s NODE at (reached_at 3 false)) at body.end j) (b : std.Option ℕ) (t : Tally) (c : Cursor) (z : j ≡ Ok (b, t, c)) where
   own_on : Ahead at body.end c t
   own_on = subst (OwnedIn at body.end) z h.within
 
@@ -78,20 +76,20 @@ module _ (s : List ℕ) (at : ℕ) (body : Cursor) (g : Body at body (length s))
   node-own-small = let o = own_on in within_more (c.at - at) most_bytes o.within (omega (arith, o.room, o.before, g.within, g.small))
 
 module _ (s : List ℕ) (at : ℕ) (body : Cursor) (g : Body at body (length s)) (l : ℕ) (a : Option ℕ) where
-  abbrev Node : Judged → Type 0
+  abbrev Node : std.Result Tally Refusal → Type 0
   Node x = Judges inner_tally (lax_node l a at (left body s)) at body.end x
 
-  pub node-deep : l ≡ 0 → Node (judge.Reject 9 at)
+  pub node-deep : l ≡ 0 → Node (Err (refusal_at 9 at))
   unfolding lax_node
   node-deep e = record { is = rw e; within = omega (arith, g.head, g.room) }
 
-  module _ (d : l ≡ 0 → ⊥) (j : NodeSummary) (h : Owns a (lax_own a at (left body s)) (rest_in s NODE at (reached_at 3 false)) at body.end j) where
-    pub node-own-bad : (e q : ℕ) → j ≡ own.Reject e q → Node (judge.Reject e q)
-    node-own-bad e q z =
-        let b = beside_bad (bone_limit_below a) data_tally (lax_own a at (left body s)) e q (owns-at a (lax_own a at (left body s)) (rest_in s NODE at (reached_at 3 false)) at body.end j h z) in
+  module _ (d : l ≡ 0 → ⊥) (j : std.Result (std.Option ℕ × Tally × Cursor) Refusal) (h : Owns a (lax_own a at (left body s)) (rest_in s NODE at (reached_at 3 false)) at body.end j) where
+    pub node-own-bad : (e : Refusal) → j ≡ Err e → Node (Err e)
+    node-own-bad e z =
+        let b = beside_bad (bone_limit_below a) data_tally (lax_own a at (left body s)) e.number e.place (owns-at a (lax_own a at (left body s)) (rest_in s NODE at (reached_at 3 false)) at body.end j h z) in
         record { is = rw (node_open l a at (left body s) d, b); within = subst (OwnedIn at body.end) z h.within }
 
-    module _ (b : Above) (t : Tally) (c : Cursor) (z : j ≡ own.Accept b t c) where
+    module _ (b : std.Option ℕ) (t : Tally) (c : Cursor) (z : j ≡ Ok (b, t, c)) where
       on : Ahead at body.end c t
       on = own_on s at body g a j h b t c z
 
@@ -108,19 +106,19 @@ module _ (s : List ℕ) (at : ℕ) (body : Cursor) (g : Body at body (length s))
           node_open l a at (left body s) d ∙ ap (λ (o : Result (Found Data)). o >>= below (l - 1) a) v.is
           ∙ ap (λ (q : Option ℕ). read_nodes (lax_node (l - 1) q) (rest_in s NODE at (reached_at 3 false) c) >>= λ f. accept (record { self = v.value; below = f })) (sym v.first)
 
-      module _ (k : Judged) (hk : Judges forest_tally (read_nodes (lax_node (l - 1) (above_of b)) (rest_in s NODE at (reached_at 3 false) c)) c.at c.end k) where
-        pub node-below-bad : (e q : ℕ) → k ≡ judge.Reject e q → Node (judge.Reject e q)
-        node-below-bad e q y =
-            let i = judged_bad forest_tally (read_nodes (lax_node (l - 1) (above_of b)) (rest_in s NODE at (reached_at 3 false) c)) e q (sym hk.is ∙ y) in
-            let le : q ≤ c.end = subst (JudgedIn c.at c.end) y hk.within in
+      module _ (k : std.Result Tally Refusal) (hk : Judges forest_tally (read_nodes (lax_node (l - 1) (above_of b)) (rest_in s NODE at (reached_at 3 false) c)) c.at c.end k) where
+        pub node-below-bad : (e : Refusal) → k ≡ Err e → Node (Err e)
+        node-below-bad e y =
+            let i = judged_bad forest_tally (read_nodes (lax_node (l - 1) (above_of b)) (rest_in s NODE at (reached_at 3 false) c)) e (sym hk.is ∙ y) in
+            let le : e.place ≤ c.end = subst (JudgedIn c.at c.end) y hk.within in
             record { is = rw (opened, i); within = let o = on in omega (arith, o.before) }
 
-        pub node-below-small : (f : Tally) → k ≡ judge.Accept f → Within f most_bytes
+        pub node-below-small : (f : Tally) → k ≡ Ok f → Within f most_bytes
         node-below-small f y =
             let i : Within f (c.end - c.at) = subst (JudgedIn c.at c.end) y hk.within in
             within_more (c.end - c.at) most_bytes i (let q = among in omega (arith, q.within, q.small))
 
-        pub node-good : (f x : Tally) → k ≡ judge.Accept f → x ≡ plus t f → Node (judge.Accept x)
+        pub node-good : (f x : Tally) → k ≡ Ok f → x ≡ plus t f → Node (Ok x)
         unfolding inner_tally
         node-good f x y e =
             let o = on in
@@ -129,11 +127,11 @@ module _ (s : List ℕ) (at : ℕ) (body : Cursor) (g : Body at body (length s))
             let to : lax_node l a at (left body s) ≡ accept (record { self = gave.value; below = v.value }) =
             opened ∙ ap (λ (q : Result Forest). q >>= λ f. accept (record { self = gave.value; below = f })) v.is in
             record {
-              is = ap judge.Accept (e ∙ ap₂ plus gave.has v.has) ∙ inner gave.value v.value ∙ ap (judged inner_tally) (sym to);
+              is = ap Ok (e ∙ ap₂ plus gave.has v.has) ∙ inner gave.value v.value ∙ ap (judged inner_tally) (sym to);
               within = rw e (within-plus t f (c.at - at) (c.end - c.at) (body.end - at) o.within i (omega (arith, o.head, o.room, o.before)));
             }
           where
-            inner : (d : Data) (f : Forest) → judge.Accept (plus (data_tally d) (forest_tally f)) ≡ judged inner_tally (accept (record { self = d; below = f }))
+            inner : (d : Data) (f : Forest) → Ok (plus (data_tally d) (forest_tally f)) ≡ judged inner_tally (accept (record { self = d; below = f }))
             inner d f = refl
 
 pub ruleset node_laws = (node-deep, node-own-bad, node-among, node-own-small, node-below-bad, node-below-small, node-good)
@@ -153,42 +151,42 @@ module _ (s : List ℕ) (at l : ℕ) (a : Option ℕ) (from : Cursor) where
   abbrev one : ℕ → List ℕ → Result Inner
   one = lax_node l a
 
-  abbrev Nodes : Judged → Type 0
+  abbrev Nodes : std.Result Tally Refusal → Type 0
   Nodes x = Judges forest_tally (read_nodes one (rest_in s NODE at (reached_at 3 false) from)) from.at from.end x
 
   pub noding_start : Among at from (length s) → (m : Tally) → m ≡ no_tally → Noding s at (lax_node l a) from from (record { turn = 3; spent = false }) m
   noding_start g m e = record { going = going_start s at from m g e; so_far = rw e (judged-start forest_tally (read_nodes one (rest_in s NODE at (reached_at 3 false) from))) }
 
-  module _ (c : Cursor) (q : State) (m : Tally) (v : Noding s at (lax_node l a) from c q m) (r : Enclosed) (x : EnclosedIs s NODE at q c r) where
-    refuse : (e i : ℕ) → read_nodes one (rest_in s NODE at (reached_of q) c) ≡ reject e i → i ≤ c.end → Nodes (judge.Reject e i)
+  module _ (c : Cursor) (q : State) (m : Tally) (v : Noding s at (lax_node l a) from c q m) (r : std.Result (std.Option Enclosed) Refusal) (x : EnclosedIs s NODE at q c r) where
+    refuse : (e : Refusal) → read_nodes one (rest_in s NODE at (reached_of q) c) ≡ reject e.number e.place → e.place ≤ c.end → Nodes (Err e)
     refuse = going-refused s at from c m v.going forest_tally _ _ v.so_far
 
-    pub noding_stop : (e p : ℕ) → r ≡ enclosed.Reject e p → Nodes (judge.Reject e p)
+    pub noding_stop : (e : Refusal) → r ≡ Err e → Nodes (Err e)
     unfolding read_nodes
-    noding_stop e p w = refuse e p (rw (rest-stop s NODE at q c r x e p w)) (stop-before s NODE at q c r x e p w)
+    noding_stop e w = refuse e (rw (rest-stop s NODE at q c r x e w)) (stop-before s NODE at q c r x e w)
 
-    pub noding_end : r ≡ enclosed.End → Nodes (judge.Accept m)
+    pub noding_end : r ≡ (Ok None) → Nodes (Ok m)
     unfolding read_nodes forest_tally
     noding_end w =
         let none : read_nodes one (rest_in s NODE at (reached_of q) c) ≡ accept no_nodes = rw (rest_end s NODE at q c r x w) in
         going_done s at from c m v.going forest_tally _ _ v.so_far no_nodes none refl
 
-    module _ (t : Tag) (p : ℕ) (b n : Cursor) (z : State) (w : r ≡ enclosed.Chunk t p b n z) (j : Judged) (h : Judges inner_tally (lax_node l a p (left b s)) p b.end j) where
-      more : read_nodes one (rest_in s NODE at (reached_of q) c) ≡ (one p (left b s) >>= λ i. read_nodes one (rest_in s NODE at (reached_of z) n) >>= λ f. accept (node i.self i.below f))
+    module _ (d : Enclosed) (w : r ≡ Ok (Some d)) (j : std.Result Tally Refusal) (h : Judges inner_tally (lax_node l a d.at (left d.body s)) d.at d.body.end j) where
+      more : read_nodes one (rest_in s NODE at (reached_of q) c) ≡ (one d.at (left d.body s) >>= λ i. read_nodes one (rest_in s NODE at (reached_of d.reached) d.next) >>= λ f. accept (node i.self i.below f))
       unfolding read_nodes
-      more = rw (rest-step s NODE at q c r x t p b n z w)
+      more = rw (rest-step s NODE at q c r x d w)
 
-      pub noding_bad : (e i : ℕ) → j ≡ judge.Reject e i → Nodes (judge.Reject e i)
-      noding_bad e i y = refuse e i (rw (more, judged_bad inner_tally (one p (left b s)) e i (sym h.is ∙ y))) (going-place s at from c m v.going NODE q r x t p b n z w inner_tally _ j h e i y)
+      pub noding_bad : (e : Refusal) → j ≡ Err e → Nodes (Err e)
+      noding_bad e y = refuse e (rw (more, judged_bad inner_tally (one d.at (left d.body s)) e (sym h.is ∙ y))) (going-place s at from c m v.going NODE q r x d w inner_tally _ j h e y)
 
-      pub noding_more : (k u : Tally) → j ≡ judge.Accept k → u ≡ plus m k → Noding s at (lax_node l a) from n z u
+      pub noding_more : (k u : Tally) → j ≡ Ok k → u ≡ plus m k → Noding s at (lax_node l a) from d.next d.reached u
       noding_more k u y e =
-          let g = judged_good inner_tally (one p (left b s)) k (sym h.is ∙ y) in
+          let g = judged_good inner_tally (one d.at (left d.body s)) k (sym h.is ∙ y) in
           record {
-            going = going_more s at from c m v.going NODE q r x t p b n z w inner_tally _ j h k u y e;
+            going = going_more s at from c m v.going NODE q r x d w inner_tally _ j h k u y e;
             so_far =
                 v.so_far ∙ ap (judged_from m forest_tally) more
-                ∙ judged-more inner_tally forest_tally (λ i f. node i.self i.below f) forest-more (one p (left b s)) k g m u e (read_nodes one (rest_in s NODE at (reached_of z) n));
+                ∙ judged-more inner_tally forest_tally (λ i f. node i.self i.below f) forest-more (one d.at (left d.body s)) k g m u e (read_nodes one (rest_in s NODE at (reached_of d.reached) d.next));
           }
 
 pub ruleset noding = (noding_start, noding_stop, noding_end, noding_bad, noding_more, going)

@@ -13,11 +13,10 @@ ghost use Rattle.b3d_judge_node.specs.Answers.{above_of};
 ghost use Rattle.b3d_mend_judge_items.specs.Lax.{lax_node};
 
 use b3d_chunk_next_allowed::Enclosed;
-use b3d_judge_node::{Above, NodeSummary};
-use b3d_judge_tally::Judged;
+use b3d_judge_tally::Tally;
 use b3d_rule_nesting_order::Reached;
 use b3d_spec::Tag;
-use layout::refusals;
+use layout::{Refusal, refusals};
 use wire::Cursor;
 
 // How far the chunks of a node have come after its KEYS and ANIM.
@@ -28,25 +27,36 @@ const MOVES_READ: Reached = Reached {
 
 // Judges a NODE whose header is at `at`, with the nodes below it; 9 where no level is left.
 #[cycle(lax_node_lax_nodes)]
-pub fn lax_node(s: &[u8], at: usize, body: Cursor, levels: u32, above: Above) -> Judged
+pub fn lax_node(
+    s: &[u8],
+    at: usize,
+    body: Cursor,
+    levels: u32,
+    above: Option<usize>,
+) -> Result<Tally, Refusal>
     requires { Body at body (length s.now) }
     ensures { Judges inner_tally (lax_node levels (above_of above) at (left body s.now)) at body.end result }
 {
     if levels == 0 {
-        return Judged::Reject(refusals::TOO_DEEP, at);
+        return Err(Refusal {
+            number: refusals::TOO_DEEP,
+            place: at,
+        });
     }
-    match b3d_mend_judge_node::lax_own(s, at, body, above) {
-        NodeSummary::Reject(e, p) => Judged::Reject(e, p),
-        NodeSummary::Accept(below, t, c) => match lax_nodes(s, at, c, levels - 1, below) {
-            Judged::Reject(e, p) => Judged::Reject(e, p),
-            Judged::Accept(f) => Judged::Accept(b3d_judge_tally::plus(t, f)),
-        },
-    }
+    let (below, t, c) = b3d_mend_judge_node::lax_own(s, at, body, above)?;
+    let f = lax_nodes(s, at, c, levels - 1, below)?;
+    Ok(b3d_judge_tally::plus(t, f))
 }
 
 // Judges the nodes from `from` on inside a node whose header is at `at`, with `levels` levels left for each.
 #[cycle(lax_node_lax_nodes)]
-fn lax_nodes(s: &[u8], at: usize, from: Cursor, levels: u32, above: Above) -> Judged
+fn lax_nodes(
+    s: &[u8],
+    at: usize,
+    from: Cursor,
+    levels: u32,
+    above: Option<usize>,
+) -> Result<Tally, Refusal>
     requires { Among at from (length s.now) }
     ensures { Judges forest_tally (read_nodes (lax_node levels (above_of above)) (rest_in s.now NODE at (reached_at 3 false) from))
         from.at from.end result }
@@ -56,29 +66,21 @@ fn lax_nodes(s: &[u8], at: usize, from: Cursor, levels: u32, above: Above) -> Ju
     let mut m = b3d_judge_tally::none();
     loop {
         let found = b3d_chunk_cursor::next_chunk(s, c);
-        match b3d_chunk_next_allowed::next_inside(s, c, found, Tag::NODE, at, q) {
-            Enclosed::End => {
-                return Judged::Accept(m);
-            }
-            Enclosed::Reject(e, p) => {
-                return Judged::Reject(e, p);
-            }
-            Enclosed::Chunk {
+        let Some(
+            Enclosed {
                 at: p,
                 body,
                 next,
                 reached,
                 ..
-            } => match lax_node(s, p, body, levels, above) {
-                Judged::Reject(e, i) => {
-                    return Judged::Reject(e, i);
-                }
-                Judged::Accept(t) => {
-                    m = b3d_judge_tally::plus(m, t);
-                    q = reached;
-                    c = next;
-                }
             },
-        }
+        ) = b3d_chunk_next_allowed::next_inside(s, c, found, Tag::NODE, at, q)?
+        else {
+            return Ok(m);
+        };
+        let t = lax_node(s, p, body, levels, above)?;
+        m = b3d_judge_tally::plus(m, t);
+        q = reached;
+        c = next;
     }
 }

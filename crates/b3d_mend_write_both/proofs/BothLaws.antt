@@ -16,7 +16,6 @@ use Rattle.b3d_spec.specs.Scene.{Scene}
 use Rattle.b3d_spec.specs.Tags.{code}
 use Rattle.b3d_spec.specs.declared.Tag.TheVariants.{BB3D}
 use Rattle.b3d_spec.proofs.Files.FileLaws.{size_low, size_bound}
-use Rattle.b3d_judge_file_body.specs.declared.Verdict.TheVariants as verdict
 use Rattle.b3d_mend_spec.specs.Answers.{written_both, file_after, report_after, mend_answer, mend_output, mend_report}
 use Rattle.b3d_mend_spec.specs.Edits.{follow, mend, becomes, after, file_length}
 use Rattle.b3d_mend_spec.specs.Mend.{Mended, mend_file}

@@ -1,4 +1,6 @@
 -- What is put of a BRUS.
+use Rattle.std.specs.Prelude.{Some, None}
+use Rattle.std.specs.Prelude as std
 use mathlib.Core.Path.{◌≡◌, ap, ◌∙◌}
 use Prim.Native.Nat.{ℕ, ◌+◌, ◌<◌, ◌≤◌}
 use native.Mathlib.Omega.{arith}
@@ -8,8 +10,6 @@ use lib.ListN.{length, take, drop, length-take, length-drop}
 use Rattle.wire.specs.Bytes.{bytes, AllBytes}
 use Rattle.wire.specs.Cursors.{Inside, left, number_at}
 use Rattle.wire.specs.declared.Cursor.{Cursor}
-use Rattle.wire.specs.declared.Number.{Number}
-use Rattle.wire.specs.declared.Number.TheVariants as number
 use Rattle.layout.specs.Rules.{up_to}
 use Rattle.shared_output.proofs.PartLaws.{Both}
 use Rattle.b3d_spec_chunk_places.specs.Places.{Body}
@@ -23,18 +23,18 @@ use Rattle.b3d_mend_write_spec.proofs.ShowsLaws.{shown-none, shown-cons}
 use Rattle.b3d_mend_write_edits.proofs.SliceLaws.{word_slice}
 use Rattle.b3d_mend_write_brushes.specs.Lists.{brushes_at}
 
-module _ (s : List ℕ) (p : ℕ) (b : Cursor) (body : Body p b (length s)) (h : AllBytes s) (textures : ℕ) (r : Number) (e : r ≡ number_at s b) (report wet : Bool) (xs : List ℕ) (at : ℕ) where
+module _ (s : List ℕ) (p : ℕ) (b : Cursor) (body : Body p b (length s)) (h : AllBytes s) (textures : ℕ) (r : std.Option (ℕ × Cursor)) (e : r ≡ number_at s b) (report wet : Bool) (xs : List ℕ) (at : ℕ) where
   abbrev All : List ℕ
   All = shown report b.at (brus_edits textures p (left b s))
 
   none : brus_edits textures p (left b s) ≡ [] → Emits wet All xs at xs at
   none q = emits_none wet All xs at (ap (shown report b.at) q ∙ shown-none report b.at)
 
-  pub brus_cut : r ≡ number.Cut → Emits wet All xs at xs at
+  pub brus_cut : r ≡ None → Emits wet All xs at xs at
   unfolding brus_edits brus_of
   brus_cut w = none (rw (head_cut s p b body r e (up_to 8) w))
 
-  module _ (k : ℕ) (c : Cursor) (w : r ≡ number.Is k c) where
+  module _ (k : ℕ) (c : Cursor) (w : r ≡ Some (k, c)) where
     pub brus_over : 8 < k → Emits wet All xs at xs at
     unfolding brus_edits brus_of
     brus_over q = none (rw (head_over s p b body r e k c w 8 q))

@@ -1,4 +1,7 @@
 -- What is put of brushes one after the other.
+use Rattle.std.specs.Prelude.{Some, None}
+use Rattle.std.specs.Prelude as std
+use Rattle.b3d_chunk_cursor.specs.declared.Named.{Named}
 use mathlib.Core.Path.{◌≡◌, refl, sym, ap, subst, ◌∙◌}
 use Prim.Native.Nat.{ℕ, zero, suc, ◌+◌, ◌-◌, ◌*◌, ◌<◌, ◌≤◌}
 use native.Mathlib.Omega.{arith}
@@ -9,8 +12,6 @@ use lib.Dec.{ltb}
 use Rattle.wire.specs.Test.{if}
 use Rattle.wire.specs.Cursors.{Inside, left, text_at}
 use Rattle.wire.specs.declared.Cursor.{Cursor}
-use Rattle.wire.specs.declared.Text.{Text}
-use Rattle.wire.specs.declared.Text.TheVariants as text
 use Rattle.wire.proofs.LeftLaws.{left-length, left-nil}
 use Rattle.wire.proofs.AnswerLaws.{texted}
 use Rattle.layout.specs.Result.{Result, accept, reject}
@@ -21,8 +22,6 @@ use Rattle.layout.proofs.StepLaws.{named_shrinks, length-words-of}
 use Rattle.shared_output.proofs.PartLaws.{Both}
 use Rattle.shared_output.proofs.AppendLaws.{text-zero}
 use Rattle.b3d_chunk_cursor.specs.Chunks.{named_by, named_at, NamedIn}
-use Rattle.b3d_chunk_cursor.specs.declared.Named.{Named}
-use Rattle.b3d_chunk_cursor.specs.declared.Named.TheVariants as named
 use Rattle.b3d_chunk_cursor.proofs.NamedLaws.{named-cut, named-any, named-among}
 use Rattle.b3d_mend_spec.specs.Edits.{Edit, keep, was, before}
 use Rattle.b3d_mend_spec.specs.Walks.{word_edit, word_edits, brush_of, brush_edits_in}
@@ -80,17 +79,21 @@ rules-long : (slots textures : ℕ) → length (brush_rules slots textures) ≡ 
 rules-long slots textures = simp (length-append, length-replicate) (omega arith)
 
 -- a row that begins with a name begins with a text
-pub named-text : (s : List ℕ) (c : Cursor) (words len : ℕ) (w n : Cursor) → named_at s c words ≡ named.Is len w n → text_at s c ≡ text.Is len w
+pub named-text : (s : List ℕ) (c : Cursor) (words : ℕ) (f : Named) → named_at s c words ≡ Some f → text_at s c ≡ Some (f.length, f.row)
 unfolding named_at named_by if
-named-text s c words len w n e = go (text_at s c) e
+named-text s c words f e = go (text_at s c) e
   where
-    go : (t : Text) → named_by words t ≡ named.Is len w n → t ≡ text.Is len w
-    go text.Cut h = let z : ◌≡◌ {A = ℕ} 0 1 = cc in absurd (omega arith)
-    go (text.Is k v) h = pick (ltb (v.end - v.at) (4 * words)) h
+    go : (t : std.Option (ℕ × Cursor)) → named_by words t ≡ Some f → t ≡ Some (f.length, f.row)
+    go None h = let z : ◌≡◌ {A = ℕ} 0 1 = cc in absurd (omega arith)
+    go (Some (k, v)) h = pick (ltb (v.end - v.at) (4 * words)) h
       where
-        pick : (b : Bool) → if b named.Cut (named.Is k v (record { at = v.at + 4 * words; end = v.end })) ≡ named.Is len w n → text.Is k v ≡ text.Is len w
+        pick : (b : Bool) → ◌≡◌ {A = std.Option Named} (if b None (Some (record { length = k; row = v; next = (record { at = v.at + 4 * words; end = v.end }) }))) (Some f)
+            → ◌≡◌ {A = std.Option (ℕ × Cursor)} (Some (k, v)) (Some (f.length, f.row))
         pick true q = let z : ◌≡◌ {A = ℕ} 0 1 = cc in absurd (omega arith)
-        pick false q = cc
+        pick false q =
+            let a : Named = record { length = k; row = v; next = (record { at = v.at + 4 * words; end = v.end }) } in
+            let p : a ≡ f = cc in
+            ap (λ (x : Named). Some (x.length, x.row)) p
 
 -- ---- the loop
 
@@ -114,68 +117,68 @@ module _ (s : List ℕ) (slots textures : ℕ) (from : Cursor) (report wet : Boo
     unfolding brushes_at brush_edits_in
     brushes_done h = none (rw (left-nil s c h))
 
-    module _ (h : c.at < c.end) (few : slots ≤ 8) (r : Named) (e : r ≡ named_at s c (7 + slots)) where
-      pub brushes_cut : r ≡ named.Cut → Emits wet All xs start ys at
+    module _ (h : c.at < c.end) (few : slots ≤ 8) (r : std.Option Named) (e : r ≡ named_at s c (7 + slots)) where
+      pub brushes_cut : r ≡ None → Emits wet All xs start ys at
       unfolding brushes_at
       brushes_cut w =
           none (no-brush (brush_rules slots textures) c.at (left c s) 5 c.at (named-cut s c (7 + slots) g.inside (replicate (length (brush_rules slots textures)) any) (length-replicate (length (brush_rules slots textures)) any ∙ rules-long slots textures) r e w))
 
-      module _ (b : NamedIn c (7 + slots) r) (len : ℕ) (w n : Cursor) (q : r ≡ named.Is len w n) where
-        pub brush_at : BrushAt s c w slots
+      module _ (b : NamedIn c (7 + slots) r) (d : Named) (q : r ≡ Some d) where
+        pub brush_at : BrushAt s c d.row slots
         brush_at =
-            let f = named-among c (7 + slots) r b len w n q in
-            let t = texted s c len w (named-text s c (7 + slots) len w n (sym e ∙ q)) in
-            let k : len ≡ w.at - (c.at + 1) = omega (arith, f.row) in
+            let f = named-among c (7 + slots) r b d q in
+            let t = texted s c d.length d.row (named-text s c (7 + slots) d (sym e ∙ q)) in
+            let k : d.length ≡ d.row.at - (c.at + 1) = omega (arith, f.row) in
             record {
               inside = g.inside;
               before = omega (arith, f.row);
               same = f.row_same;
               room = omega (arith, f.after, f.to, f.same, f.row_same);
               few = few;
-              text = subst (λ (i : ℕ). left c s ≡ take i (left c s) ++ 0 ∷ left w s) k t.is;
+              text = subst (λ (i : ℕ). left c s ≡ take i (left c s) ++ 0 ∷ left d.row s) k t.is;
               long = subst (λ (i : ℕ). length (take i (left c s)) ≡ i) k t.long;
             }
 
-        pub brush_next_inside : Inside n (length s)
-        brush_next_inside = let f = named-among c (7 + slots) r b len w n q in record { before = f.to; within = omega (arith, g.inside.within, f.same) }
+        pub brush_next_inside : Inside d.next (length s)
+        brush_next_inside = let f = named-among c (7 + slots) r b d q in record { before = f.to; within = omega (arith, g.inside.within, f.same) }
 
-        pub brush_less : n.end - n.at < c.end - c.at
-        brush_less = let f = named-among c (7 + slots) r b len w n q in omega (arith, f.row, f.after, f.to, f.same)
+        pub brush_less : d.next.end - d.next.at < c.end - c.at
+        brush_less = let f = named-among c (7 + slots) r b d q in omega (arith, f.row, f.after, f.to, f.same)
 
-        step : brushes_at slots textures s c ≡ brush_edits slots textures c w s ++ brushes_at slots textures s n
+        step : brushes_at slots textures s c ≡ brush_edits slots textures c d.row s ++ brushes_at slots textures s d.next
         unfolding brushes_at brush_edits
         step =
-            let f = named-among c (7 + slots) r b len w n q in
-            let k : len ≡ w.at - (c.at + 1) = omega (arith, f.row) in
+            let f = named-among c (7 + slots) r b d q in
+            let k : d.length ≡ d.row.at - (c.at + 1) = omega (arith, f.row) in
             let l = left-length s c g.inside in
-            one-brush (brush_rules slots textures) c.at (left c s) (record { value = (record { place = c.at; bytes = take len (left c s) }, words_of (7 + slots) (left w s)); place = n.at; left = left n s }) (omega arith)
-            (ap (λ (i : ℕ). named (replicate i any) c.at (left c s)) (rules-long slots textures) ∙ named-any s c (7 + slots) g.inside r e len w n q)
-            ∙ ap (λ (i : ℕ). (keep (write_text (take i (left c s)) []) ∷ word_edits (brush_rules slots textures) (words_of (7 + slots) (left w s))) ++ brush_edits_in (length (left n s)) (brush_rules slots textures) n.at (left n s)) k
+            one-brush (brush_rules slots textures) c.at (left c s) (record { value = (record { place = c.at; bytes = take d.length (left c s) }, words_of (7 + slots) (left d.row s)); place = d.next.at; left = left d.next s }) (omega arith)
+            (ap (λ (i : ℕ). named (replicate i any) c.at (left c s)) (rules-long slots textures) ∙ named-any s c (7 + slots) g.inside r e d q)
+            ∙ ap (λ (i : ℕ). (keep (write_text (take i (left c s)) []) ∷ word_edits (brush_rules slots textures) (words_of (7 + slots) (left d.row s))) ++ brush_edits_in (length (left d.next s)) (brush_rules slots textures) d.next.at (left d.next s)) k
 
-        size : c.at + length (before (brush_edits slots textures c w s)) ≡ n.at
+        size : c.at + length (before (brush_edits slots textures c d.row s)) ≡ d.next.at
         unfolding brush_edits before was
         size =
-            let f = named-among c (7 + slots) r b len w n q in
+            let f = named-among c (7 + slots) r b d q in
             let a = brush_at in
-            let i : Inside w (length s) = record { before = omega (arith, a.room); within = omega (arith, g.inside.within, f.row_same) } in
-            let u = length-append (write_text (take (w.at - (c.at + 1)) (left c s)) []) (before (word_edits (brush_rules slots textures) (words_of (7 + slots) (left w s)))) in
-            let t = ap length (text-zero (take (w.at - (c.at + 1)) (left c s))) in
-            let z = length-append (take (w.at - (c.at + 1)) (left c s)) (0 ∷ []) in
-            let v = words_long (brush_rules slots textures) (words_of (7 + slots) (left w s)) (length-words-of (7 + slots) (left w s) (omega (arith, left-length s w i, a.room)) ∙ sym (rules-long slots textures)) in
+            let i : Inside d.row (length s) = record { before = omega (arith, a.room); within = omega (arith, g.inside.within, f.row_same) } in
+            let u = length-append (write_text (take (d.row.at - (c.at + 1)) (left c s)) []) (before (word_edits (brush_rules slots textures) (words_of (7 + slots) (left d.row s)))) in
+            let t = ap length (text-zero (take (d.row.at - (c.at + 1)) (left c s))) in
+            let z = length-append (take (d.row.at - (c.at + 1)) (left c s)) (0 ∷ []) in
+            let v = words_long (brush_rules slots textures) (words_of (7 + slots) (left d.row s)) (length-words-of (7 + slots) (left d.row s) (omega (arith, left-length s d.row i, a.room)) ∙ sym (rules-long slots textures)) in
             let y = rules-long slots textures in
             omega (arith, a.long, a.before, f.after)
 
-        two : Both (shown report c.at (brushes_at slots textures s c)) (shown report c.at (brush_edits slots textures c w s)) (shown report n.at (brushes_at slots textures s n))
+        two : Both (shown report c.at (brushes_at slots textures s c)) (shown report c.at (brush_edits slots textures c d.row s)) (shown report d.next.at (brushes_at slots textures s d.next))
         two = record {
           is =
-              ap (shown report c.at) step ∙ (shown-append report c.at (brush_edits slots textures c w s) (brushes_at slots textures s n)).is
-              ∙ ap (λ (k : ℕ). shown report c.at (brush_edits slots textures c w s) ++ shown report k (brushes_at slots textures s n)) size;
+              ap (shown report c.at) step ∙ (shown-append report c.at (brush_edits slots textures c d.row s) (brushes_at slots textures s d.next)).is
+              ∙ ap (λ (k : ℕ). shown report c.at (brush_edits slots textures c d.row s) ++ shown report k (brushes_at slots textures s d.next)) size;
         }
 
-        pub brush-fits : RoomFrom wet (shown report c.at (brush_edits slots textures c w s)) at ys
-        brush-fits = left-fits wet All xs start ys at _ g.rest (shown report c.at (brush_edits slots textures c w s)) _ two
+        pub brush-fits : RoomFrom wet (shown report c.at (brush_edits slots textures c d.row s)) at ys
+        brush-fits = left-fits wet All xs start ys at _ g.rest (shown report c.at (brush_edits slots textures c d.row s)) _ two
 
-        pub brushes_next : (zs : List ℕ) (m : ℕ) → Emits wet (shown report c.at (brush_edits slots textures c w s)) ys at zs m → Brushes s slots textures from report wet xs start zs n m
-        brushes_next zs m x = record { inside = brush_next_inside; rest = left_next wet All xs start ys at _ g.rest (shown report c.at (brush_edits slots textures c w s)) _ two zs m x }
+        pub brushes_next : (zs : List ℕ) (m : ℕ) → Emits wet (shown report c.at (brush_edits slots textures c d.row s)) ys at zs m → Brushes s slots textures from report wet xs start zs d.next m
+        brushes_next zs m x = record { inside = brush_next_inside; rest = left_next wet All xs start ys at _ g.rest (shown report c.at (brush_edits slots textures c d.row s)) _ two zs m x }
 
 pub ruleset brushes_laws = (brushes_start, brushes_done, brushes_cut, brush_at, brush_next_inside, brush_less, brush-fits, brushes_next)

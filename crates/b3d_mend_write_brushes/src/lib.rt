@@ -8,7 +8,6 @@ ghost use Rattle.b3d_mend_write_spec.specs.Shown.{shown};
 ghost use Rattle.b3d_mend_write_brushes.specs.Ids.{id_edits};
 ghost use Rattle.wire.specs.Cursors.{Inside, left};
 ghost use Rattle.b3d_spec.specs.Rules.{most_slots};
-ghost use Rattle.b3d_chunk_cursor.specs.declared.Named.TheVariants.{Is};
 ghost use Rattle.b3d_mend_write_brushes.specs.Brushes.{BrushAt, brush_edits};
 ghost use Rattle.b3d_spec_chunk_places.specs.Places.{Body};
 ghost use Rattle.b3d_mend_spec.specs.Walks.{brus_edits};
@@ -16,7 +15,7 @@ ghost use Rattle.b3d_mend_write_brushes.specs.Lists.{brushes_at};
 
 use b3d_chunk_cursor::Named;
 use b3d_spec::MOST_SLOTS;
-use wire::{Cursor, Number};
+use wire::Cursor;
 
 // Puts `n` ids of the file from `from` on, each set to -1 where it is neither -1 nor below `limit`.
 fn put_ids(
@@ -33,11 +32,9 @@ fn put_ids(
     requires room_from { RoomFrom wet (shown report from (id_edits limit n from file.now)) start out.old }
     ensures { Emits wet (shown report from (id_edits limit n from file.now)) out.old start out.new result }
 {
-    let mut i: usize = 0;
     let mut at = start;
-    while i < n {
+    for i in 0..n {
         at = b3d_mend_write_items::put_id(file, from + 4 * i, limit, report, wet, out, at);
-        i += 1;
     }
     at
 }
@@ -84,15 +81,11 @@ fn put_brushes(
     let mut c = from;
     let mut at = start;
     while c.at < c.end {
-        match b3d_chunk_cursor::named_row(file, c, 7 + slots) {
-            Named::Cut => {
-                return at;
-            }
-            Named::Is { row, next, .. } => {
-                at = put_brush(file, c, row, slots, textures, report, wet, out, at);
-                c = next;
-            }
-        }
+        let Some(Named { row, next, .. }) = b3d_chunk_cursor::named_row(file, c, 7 + slots) else {
+            return at;
+        };
+        at = put_brush(file, c, row, slots, textures, report, wet, out, at);
+        c = next;
     }
     at
 }
@@ -112,16 +105,14 @@ pub fn put_brus(
     requires room_from { RoomFrom wet (shown report body.at (brus_edits textures p (left body file.now))) at out.old }
     ensures { Emits wet (shown report body.at (brus_edits textures p (left body file.now))) out.old at out.new result }
 {
-    match body.number(file) {
-        Number::Cut => at,
-        Number::Is(slots, c) => {
-            if MOST_SLOTS < slots {
-                return at;
-            }
-            let n = wire::size(slots);
-            let from = body.at;
-            let next = b3d_mend_write_edits::put_kept(file, from, 4, report, wet, out, at);
-            put_brushes(file, c, n, textures, report, wet, out, next)
-        }
+    let Some((slots, c)) = body.number(file) else {
+        return at;
+    };
+    if MOST_SLOTS < slots {
+        return at;
     }
+    let n = wire::size(slots);
+    let from = body.at;
+    let next = b3d_mend_write_edits::put_kept(file, from, 4, report, wet, out, at);
+    put_brushes(file, c, n, textures, report, wet, out, next)
 }

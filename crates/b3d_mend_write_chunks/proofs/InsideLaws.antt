@@ -1,4 +1,6 @@
 -- The chunks from a cursor on, one at a time: a law for each way through the loop.
+use Rattle.std.specs.Prelude.{Some, None}
+use Rattle.std.specs.Prelude as std
 use mathlib.Core.Path.{◌≡◌, refl, sym, ap, ap₂, subst, ◌∙◌}
 use mathlib.Core.Logic.{⊎_elim}
 use Prim.Native.Nat.{ℕ, ◌+◌, ◌-◌, ◌<◌, ◌≤◌}
@@ -22,8 +24,6 @@ use Rattle.shared_output.specs.Writing.{head}
 use Rattle.b3d_spec.specs.Tags.{code, tag_of}
 use Rattle.b3d_spec.specs.declared.Tag.{Tag}
 use Rattle.b3d_chunk_cursor.specs.Chunks.{tagged}
-use Rattle.b3d_chunk_cursor.specs.declared.Tagged.{Tagged}
-use Rattle.b3d_chunk_cursor.specs.declared.Tagged.TheVariants as tags
 use Rattle.b3d_spec_chunk_places.specs.Places.{Body}
 use Rattle.b3d_mend_spec.specs.Edits.{keep, spare_out, after}
 use Rattle.b3d_mend_spec.specs.Pieces.{Pieces, none_left, spare, past, piece, pieces, chunks_of}
@@ -89,11 +89,11 @@ with_head s p e h w =
       left-four s (span (p + 4) e) (span (p + 8) e) (record { before = omega arith; within = w }) (omega arith) (omega arith) refl,
     ))
 
-no-tag : (x : Option Tag) → tags.Other ≡ tagged x → x ≡ none
+no-tag : (x : Option Tag) → None ≡ tagged x → x ≡ none
 no-tag none e = refl
 no-tag (some t) e = let z : ◌≡◌ {A = ℕ} 0 1 = cc in absurd (omega arith)
 
-one_tag : (x : Option Tag) (t : Tag) → tags.Known t ≡ tagged x → x ≡ some t
+one_tag : (x : Option Tag) (t : Tag) → Some t ≡ tagged x → x ≡ some t
 one_tag none t e = let z : ◌≡◌ {A = ℕ} 0 1 = cc in absurd (omega arith)
 one_tag (some u) t e = cc
 
@@ -219,8 +219,8 @@ module _ (s : List ℕ) (l : ℕ) (from : Cursor) (scope : Scope) (report wet : 
       pub whole_body : length s ≤ most_bytes → Body c.at b (length s)
       whole_body h = record { head = frame.body; room = frame.room; within = omega (arith, frame.inside, g.inside.within); small = h }
 
-      module _ (o : Tagged) (eo : o ≡ tagged (tag_of t)) where
-        module _ (q : o ≡ tags.Other) where
+      module _ (o : std.Option Tag) (eo : o ≡ tagged (tag_of t)) where
+        module _ (q : o ≡ None) where
           away : walk_from report l k s c ≡ walked (shown report c.at (keep (take (n.at - c.at) (drop c.at s)) ∷ []) ++ (walk_from report l k s n).bytes) (walk_from report l k s n).count
           away = at_other report l k s c g.inside t b n frame (no-tag (tag_of t) (sym q ∙ eo))
 
@@ -237,7 +237,7 @@ module _ (s : List ℕ) (l : ℕ) (from : Cursor) (scope : Scope) (report wet : 
             counted = g.counted ∙ ap (λ (x : ChunkShown). x.count) away;
           }
 
-        module _ (u : Tag) (q : o ≡ tags.Known u) where
+        module _ (u : Tag) (q : o ≡ Some u) where
           abbrev one : ChunkShown
           one = walk_chunk report l k u c.at (left b s)
 

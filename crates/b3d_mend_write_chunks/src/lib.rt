@@ -11,7 +11,6 @@ ghost use Rattle.b3d_mend_write_scopes.specs.Shown.{walk_chunk};
 ghost use Rattle.b3d_mend_write_leaves.specs.Answers.{Walks};
 ghost use Rattle.b3d_mend_write_scopes.specs.Opens.{walk_from};
 
-use b3d_chunk_cursor::Tagged;
 use b3d_mend_write_leaves::Walk;
 use b3d_mend_write_scopes::{Opening, Scope};
 use b3d_spec::Tag;
@@ -90,12 +89,12 @@ pub fn walk_inside(
                 };
             }
             Header::Whole { tag, body, next } => match b3d_chunk_cursor::tag_of(tag) {
-                Tagged::Other => {
+                None => {
                     let n = next.at - here;
                     at = b3d_mend_write_edits::put_kept(file, here, n, report, wet, out, at);
                     c = next;
                 }
-                Tagged::Known(t) => {
+                Some(t) => {
                     let m = b3d_mend_write_scopes::body_at(report, at);
                     let w = walk_body(file, levels, t, here, body, k, report, wet, out, m);
                     let size = w.at - m;

@@ -13,9 +13,6 @@ ghost use Rattle.wire.specs.Bytes.{AllBytes};
 ghost use Rattle.shared_put_or_count.specs.Emits.{Emits, RoomFrom};
 ghost use Rattle.b3d_mend_write_leaves.specs.Answers.{leaf_count, Walks};
 
-use b3d_judge_bodies::VerticesSummary;
-use b3d_judge_materials::BrushesSummary;
-use b3d_judge_tally::Judged;
 use b3d_mend_write_scopes::Scope;
 use b3d_spec::{Mode, Tag};
 use wire::Cursor;
@@ -29,8 +26,8 @@ fn textures_in(file: &[u8], p: usize, body: Cursor) -> usize
     ensures { result ≡ textures_of (read_textures p (left body file.now)) }
 {
     match b3d_judge_materials::judge_textures(file, p, body) {
-        Judged::Reject(_, _) => 0,
-        Judged::Accept(t) => t.textures,
+        Err(_) => 0,
+        Ok(t) => t.textures,
     }
 }
 
@@ -40,8 +37,8 @@ fn brushes_in(file: &[u8], p: usize, body: Cursor) -> usize
     ensures { result ≡ brush_count (read_brushes Lenient every p (left body file.now)) }
 {
     match b3d_judge_materials::judge_brushes(file, p, body, EVERY, Mode::Lenient) {
-        BrushesSummary::Reject(_, _) => 0,
-        BrushesSummary::Accept(_, t) => t.brushes,
+        Err(_) => 0,
+        Ok((_, t)) => t.brushes,
     }
 }
 
@@ -51,8 +48,8 @@ fn vertices_in(file: &[u8], p: usize, body: Cursor) -> usize
     ensures { result ≡ vertices_of (read_vertices Lenient p (left body file.now)) }
 {
     match b3d_judge_bodies::judge_vertices(file, p, body, Mode::Lenient) {
-        VerticesSummary::Reject(_, _) => 0,
-        VerticesSummary::Accept(n, _) => n,
+        Err(_) => 0,
+        Ok((n, _)) => n,
     }
 }
 

@@ -1,4 +1,7 @@
 -- A law for each way through `find_chunks`.
+use Rattle.std.specs.Prelude.{Some, None}
+use Rattle.std.specs.Prelude as std
+use Rattle.b3d_chunk_cursor.specs.declared.Named.{Named}
 use mathlib.Core.Path.{◌≡◌, refl, sym, ap, ap₂, subst, ◌∙◌}
 use Prim.Native.Nat.{ℕ, zero, suc, ◌+◌, ◌-◌, ◌*◌, ◌<◌, ◌≤◌}
 use native.Mathlib.Omega.{arith}
@@ -8,8 +11,6 @@ use lib.ListN.{length, take, drop, length-append, length-replicate}
 use Rattle.wire.specs.Bytes.{word_at, AllBytes}
 use Rattle.wire.specs.Cursors.{Inside, left, number_at}
 use Rattle.wire.specs.declared.Cursor.{Cursor}
-use Rattle.wire.specs.declared.Number.{Number}
-use Rattle.wire.specs.declared.Number.TheVariants as number
 use Rattle.wire.proofs.LeftLaws.{span, left-length, left-four, left-drop, left-bytes}
 use Rattle.wire.proofs.AnswerLaws.{numbered, number_cut, Texted, texted}
 use Rattle.layout.specs.Result.{Result, accept, reject}
@@ -18,8 +19,6 @@ use Rattle.layout.specs.Rules.{any, names_or_none}
 use Rattle.layout.specs.Write.{write_words, write_text}
 use Rattle.shared_output.proofs.AppendLaws.{text-append, text-zero}
 use Rattle.b3d_chunk_cursor.specs.Chunks.{named_at, RowIn, NamedIn}
-use Rattle.b3d_chunk_cursor.specs.declared.Named.{Named}
-use Rattle.b3d_chunk_cursor.specs.declared.Named.TheVariants as row
 use Rattle.b3d_chunk_cursor.proofs.NamedLaws.{named-cut, named-any, named-among}
 use Rattle.b3d_spec.specs.Rules.{node_row, mesh_head}
 use Rattle.b3d_spec.specs.declared.Tag.{Tag}
@@ -78,8 +77,8 @@ node_got report k p b h e (suc l) d =
     ∙ ap (λ (n : ℕ). walked (shown report (p + 8) (keep (write_text h.value.0.bytes (write_words h.value.1 [])) ∷ []) ++ (walk_inside report (walk_chunk report n) (node_scope k) h.place h.left).bytes) 0)
     (let z : l ≡ suc l - 1 = omega arith in z)
 
-module _ (s : List ℕ) (l : ℕ) (t : Tag) (b : Cursor) (e : t ≡ NODE) (i : Inside b (length s)) (r : Named) (q : r ≡ named_at s b 10) where
-  pub open_cut : r ≡ row.Cut → OpeningIs s l t b opening.Flat
+module _ (s : List ℕ) (l : ℕ) (t : Tag) (b : Cursor) (e : t ≡ NODE) (i : Inside b (length s)) (r : std.Option Named) (q : r ≡ named_at s b 10) where
+  pub open_cut : r ≡ None → OpeningIs s l t b opening.Flat
   open_cut w = record {
     is = (λ report k p h.
         ap (λ (u : Tag). walk_chunk report l k u p (left b s)) e
@@ -87,17 +86,17 @@ module _ (s : List ℕ) (l : ℕ) (t : Tag) (b : Cursor) (e : t ≡ NODE) (i : I
         ∙ sym (ap (λ (u : Tag). walk_leaf report k u p (left b s)) e));
   }
 
-  module _ (d : l ≡ 0 → ⊥) (h : AllBytes s) (j : NamedIn b 10 r) (len : ℕ) (w n : Cursor) (x : r ≡ row.Is len w n) where
+  module _ (d : l ≡ 0 → ⊥) (h : AllBytes s) (j : NamedIn b 10 r) (g : Named) (x : r ≡ Some g) where
     abbrev found : Step (Name × List ℕ)
-    found = record { value = (record { place = b.at; bytes = take len (left b s) }, words_of 10 (left w s)); place = n.at; left = left n s }
+    found = record { value = (record { place = b.at; bytes = take g.length (left b s) }, words_of 10 (left g.row s)); place = g.next.at; left = left g.next s }
 
-    stands : write_text (take len (left b s)) (write_words (words_of 10 (left w s)) []) ≡ take (n.at - b.at) (drop b.at s)
-    stands = row-stands s b 10 len w n h i (texted s b len w (named-text s b 10 len w n (sym q ∙ x))) (named-among b 10 r j len w n x)
+    stands : write_text (take g.length (left b s)) (write_words (words_of 10 (left g.row s)) []) ≡ take (g.next.at - b.at) (drop b.at s)
+    stands = row-stands s b 10 g.length g.row g.next h i (texted s b g.length g.row (named-text s b 10 g (sym q ∙ x))) (named-among b 10 r j g x)
 
-    pub open_node : OpeningIs s l t b (opening.Node n)
+    pub open_node : OpeningIs s l t b (opening.Node g.next)
     unfolding node_front walk_from
     open_node =
-        let f = named-among b 10 r j len w n x in
+        let f = named-among b 10 r j g x in
         record {
           is = record {
             levels = pos l d;
@@ -106,8 +105,8 @@ module _ (s : List ℕ) (l : ℕ) (t : Tag) (b : Cursor) (e : t ≡ NODE) (i : I
             room = omega (arith, f.row, f.after, f.to, f.same, i.within);
             always = (λ report k p z.
                 ap (λ (u : Tag). walk_chunk report l k u p (left b s)) e
-                ∙ node_got report k p (left b s) found (subst (λ (m : ℕ). named node_row m (left b s) ≡ accept found) z (named-any s b 10 i r q len w n x)) l d
-                ∙ ap₂ (λ (m : ℕ) (y : List ℕ). walked (shown report m (keep y ∷ []) ++ (walk_inside report (walk_chunk report (l - 1)) (node_scope k) n.at (left n s)).bytes) 0) (sym z) stands);
+                ∙ node_got report k p (left b s) found (subst (λ (m : ℕ). named node_row m (left b s) ≡ accept found) z (named-any s b 10 i r q g x)) l d
+                ∙ ap₂ (λ (m : ℕ) (y : List ℕ). walked (shown report m (keep y ∷ []) ++ (walk_inside report (walk_chunk report (l - 1)) (node_scope k) g.next.at (left g.next s)).bytes) 0) (sym z) stands);
           };
         }
 
@@ -145,8 +144,8 @@ mesh-word : (report : Bool) (k : Scope) (p q l v : ℕ) (b : List ℕ)
 unfolding word_edits
 mesh-word report k p q l v b = refl
 
-module _ (s : List ℕ) (l : ℕ) (t : Tag) (b : Cursor) (e : t ≡ MESH) (d : l ≡ 0 → ⊥) (i : Inside b (length s)) (r : Number) (q : r ≡ number_at s b) where
-  pub open_short : r ≡ number.Cut → OpeningIs s l t b opening.Nothing
+module _ (s : List ℕ) (l : ℕ) (t : Tag) (b : Cursor) (e : t ≡ MESH) (d : l ≡ 0 → ⊥) (i : Inside b (length s)) (r : std.Option (ℕ × Cursor)) (q : r ≡ number_at s b) where
+  pub open_short : r ≡ None → OpeningIs s l t b opening.Nothing
   open_short w =
       let h : length (left b s) < 4 = omega (arith, left-length s b i, number_cut s b (sym q ∙ w)) in
       record {
@@ -156,7 +155,7 @@ module _ (s : List ℕ) (l : ℕ) (t : Tag) (b : Cursor) (e : t ≡ MESH) (d : l
             ∙ mesh-none report k (p + 8) (p + 8 + 4) (l - 1));
       }
 
-  module _ (v : ℕ) (n : Cursor) (x : r ≡ number.Is v n) where
+  module _ (v : ℕ) (n : Cursor) (x : r ≡ Some (v, n)) where
     pub open-mesh : OpeningIs s l t b (opening.Mesh n)
     unfolding mesh_front walk_from
     open-mesh =

@@ -16,7 +16,7 @@ ghost use Rattle.b3d_mend_write_scopes.specs.HeadRooms.{head_wet, HeadRoom};
 
 use b3d_chunk_cursor::Named;
 use b3d_spec::Tag;
-use wire::{Cursor, Number};
+use wire::Cursor;
 
 // What a chunk needs to know of those before it and of those around it.
 #[derive(Clone, Copy)]
@@ -144,14 +144,18 @@ pub fn find_chunks(file: &[u8], levels: u32, tag: Tag, body: Cursor) -> Opening
         return Opening::Flat;
     }
     match tag {
-        Tag::NODE => match b3d_chunk_cursor::named_row(file, body, 10) {
-            Named::Cut => Opening::Flat,
-            Named::Is { next, .. } => Opening::Node(next),
-        },
-        Tag::MESH => match body.number(file) {
-            Number::Cut => Opening::Nothing,
-            Number::Is(_, next) => Opening::Mesh(next),
-        },
+        Tag::NODE => {
+            let Some(Named { next, .. }) = b3d_chunk_cursor::named_row(file, body, 10) else {
+                return Opening::Flat;
+            };
+            Opening::Node(next)
+        }
+        Tag::MESH => {
+            let Some((_, next)) = body.number(file) else {
+                return Opening::Nothing;
+            };
+            Opening::Mesh(next)
+        }
         _ => Opening::Flat,
     }
 }

@@ -1,4 +1,8 @@
 -- The laws of the close, in the words of the code.
+use Rattle.layout.specs.Refused.{refusal_at}
+use Rattle.std.specs.Prelude.{Ok, Err}
+use Rattle.std.specs.Prelude as std
+use Rattle.layout.specs.declared.Refusal.{Refusal}
 use mathlib.Core.Path.{◌≡◌, refl, ap, sym, ◌∙◌}
 use Prim.Native.Nat.{ℕ, ◌-◌, ◌<◌, ◌≤◌}
 use native.Mathlib.Omega.{arith}
@@ -25,8 +29,6 @@ use Rattle.b3d_pieces_step.specs.Turns.{stack_by, pends}
 use Rattle.b3d_pieces_step.proofs.TurnLaws.{none}
 use Rattle.b3d_pieces_judge_step.specs.declared.Judge.{Judge}
 use Rattle.b3d_pieces_judge_step.specs.Takes.{held_of}
-use Rattle.b3d_pieces_answers.specs.declared.Closing.{Closing}
-use Rattle.b3d_pieces_answers.specs.declared.Closing.TheVariants.{Accept, Reject}
 use Rattle.b3d_pieces_answers.specs.Closes.{closing_of, rows_in, as_word, answer_by, word_answer, EndIs, Closes}
 
 -- ---- tables
@@ -42,8 +44,8 @@ module _ (g : Totals) (k : ℕ) (e : k ≡ over_limit (tallied (rows_in g) 0)) w
 
 -- ---- the machine's end
 
-module _ (held : Now) (r : Closing) where
-  pub end_live : (at : ℕ) (m : Part) (g : Totals) (f : Open) → held ≡ Live at m g f → r ≡ Accept g → EndIs held r
+module _ (held : Now) (r : std.Result Totals Refusal) where
+  pub end_live : (at : ℕ) (m : Part) (g : Totals) (f : Open) → held ≡ Live at m g f → r ≡ Ok g → EndIs held r
   unfolding ended
   end_live at m g f e q = rw (e, q) (record { is = λ c R. refl })
 
@@ -53,11 +55,11 @@ module _ (held : Now) (r : Closing) where
   pub end_pop : (at : ℕ) (g : Totals) → held ≡ Pop at g → EndIs held r
   end_pop at g e = rw e (record { is = λ c R. none (sym c) })
 
-  pub end-fault : (n p : ℕ) → held ≡ Fault n p → r ≡ Reject n p → EndIs held r
+  pub end-fault : (n p : ℕ) → held ≡ Fault n p → r ≡ Err (refusal_at n p) → EndIs held r
   unfolding ended
   end-fault n p e q = rw (e, q) (record { is = λ c R. refl })
 
-  pub end-over : (g : Totals) → held ≡ Over g → r ≡ Accept g → EndIs held r
+  pub end-over : (g : Totals) → held ≡ Over g → r ≡ Ok g → EndIs held r
   unfolding ended
   end-over g e q = rw (e, q) (record { is = λ c R. refl })
 
@@ -69,21 +71,21 @@ bad-size : (h : Held) → size_fits h.size ≡ false → closing h ≡ reject 1 
 unfolding closing check
 bad-size h e = rw e
 
-out_of : (o : Result Totals) (r : Closing) → r ≡ closing_of o → (n p : ℕ) → r ≡ Reject n p → o ≡ reject n p
-out_of (accept g) r e n p q = let z : ◌≡◌ {A = ℕ} 0 1 = cc in absurd (omega arith)
-out_of (reject m k) r e n p q = let a : m ≡ n = cc in let b : k ≡ p = cc in rw (a, b)
+out_of : (o : Result Totals) (r : std.Result Totals Refusal) → r ≡ closing_of o → (n : Refusal) → r ≡ Err n → o ≡ reject n.number n.place
+out_of (accept g) r e n q = let z : ◌≡◌ {A = ℕ} 0 1 = cc in absurd (omega arith)
+out_of (reject m k) r e n q = let a : m ≡ n.number = cc in let b : k ≡ n.place = cc in rw (a, b)
 
-out-good : (o : Result Totals) (r : Closing) → r ≡ closing_of o → (g : Totals) → r ≡ Accept g → o ≡ accept g
+out-good : (o : Result Totals) (r : std.Result Totals Refusal) → r ≡ closing_of o → (g : Totals) → r ≡ Ok g → o ≡ accept g
 out-good (accept x) r e g q = let a : x ≡ g = cc in rw a
 out-good (reject m k) r e g q = let z : ◌≡◌ {A = ℕ} 0 1 = cc in absurd (omega arith)
 
-module _ (j : Judge) (r : Closing) where
-  pub close-small : j.size < 12 → r ≡ Reject 1 0 → Closes j r
+module _ (j : Judge) (r : std.Result Totals Refusal) where
+  pub close-small : j.size < 12 → r ≡ Err (refusal_at 1 0) → Closes j r
   unfolding held_of
   close-small h q = record { is = λ c rs. q ∙ ap closing_of (sym (bad-size (held_of j rs) (rw (lt-leb 12 j.size h)))) }
 
   module _ (l : 12 ≤ j.size) where
-    pub close_large : 16777216 < j.size → r ≡ Reject 1 0 → Closes j r
+    pub close_large : 16777216 < j.size → r ≡ Err (refusal_at 1 0) → Closes j r
     unfolding held_of
     close_large h q = record { is = λ c rs. q ∙ ap closing_of (sym (bad-size (held_of j rs) (rw (le-leb 12 j.size l) (lt-leb j.size 16777216 h)))) }
 
@@ -96,7 +98,7 @@ module _ (j : Judge) (r : Closing) where
       unfolding whole_ended check
       tag-no h rs = closing-is rs ∙ rw (ne_eqb j.letters 0x44334242 h)
 
-      pub close-tag : (j.letters ≡ 0x44334242 → ⊥) → r ≡ Reject 2 0 → Closes j r
+      pub close-tag : (j.letters ≡ 0x44334242 → ⊥) → r ≡ Err (refusal_at 2 0) → Closes j r
       close-tag h q = record { is = λ c rs. q ∙ ap closing_of (sym (tag-no h rs)) }
 
       module _ (t : j.letters ≡ 0x44334242) where
@@ -104,25 +106,25 @@ module _ (j : Judge) (r : Closing) where
         unfolding whole_ended check
         length-no h rs = closing-is rs ∙ rw (eq-eqb j.letters 0x44334242 t, ne_eqb j.length (j.size - 8) h)
 
-        pub close-length : (j.length ≡ j.size - 8 → ⊥) → r ≡ Reject 2 4 → Closes j r
+        pub close-length : (j.length ≡ j.size - 8 → ⊥) → r ≡ Err (refusal_at 2 4) → Closes j r
         close-length h q = record { is = λ c rs. q ∙ ap closing_of (sym (length-no h rs)) }
 
-        module _ (u : j.length ≡ j.size - 8) (x : Closing) (ex : EndIs j.now x) where
+        module _ (u : j.length ≡ j.size - 8) (x : std.Result Totals Refusal) (ex : EndIs j.now x) where
           inner_is : (rs : ℕ → Open) → closing (held_of j rs) ≡ (ended (state_with (stack_by rs j.depth) j.now) >>= limited)
           unfolding whole_ended check
           inner_is rs = closing-is rs ∙ rw (eq-eqb j.letters 0x44334242 t, eq-eqb j.length (j.size - 8) u)
 
-          pub close-fault : (n p : ℕ) → x ≡ Reject n p → r ≡ Reject n p → Closes j r
-          close-fault n p e q = record { is = λ c rs. q ∙ ap closing_of (sym (inner_is rs ∙ ap (λ (o : Result Totals). o >>= limited) (out_of (ended (state_with (stack_by rs j.depth) j.now)) x (ex.is c (stack_by rs j.depth)) n p e))) }
+          pub close-fault : (n : Refusal) → x ≡ Err n → r ≡ Err n → Closes j r
+          close-fault n e q = record { is = λ c rs. q ∙ ap closing_of (sym (inner_is rs ∙ ap (λ (o : Result Totals). o >>= limited) (out_of (ended (state_with (stack_by rs j.depth) j.now)) x (ex.is c (stack_by rs j.depth)) n e))) }
 
-          module _ (g : Totals) (e : x ≡ Accept g) (c : Tally) (ec : c ≡ tallied (rows_in g) 0) (k : ℕ) (ek : k ≡ over_limit c) where
+          module _ (g : Totals) (e : x ≡ Ok g) (c : Tally) (ec : c ≡ tallied (rows_in g) 0) (k : ℕ) (ek : k ≡ over_limit c) where
             got_is : pends j.now ≡ false → (rs : ℕ → Open) → closing (held_of j rs) ≡ limited g
             got_is c rs = inner_is rs ∙ ap (λ (o : Result Totals). o >>= limited) (out-good (ended (state_with (stack_by rs j.depth) j.now)) x (ex.is c (stack_by rs j.depth)) g e)
 
-            pub close-good : k ≡ 0 → r ≡ Accept g → Closes j r
+            pub close-good : k ≡ 0 → r ≡ Ok g → Closes j r
             close-good z q = record { is = λ c rs. q ∙ ap closing_of (sym (got_is c rs ∙ limited-yes g k (ek ∙ ap over_limit ec) z)) }
 
-            pub close-over : (k ≡ 0 → ⊥) → r ≡ Reject 10 k → Closes j r
+            pub close-over : (k ≡ 0 → ⊥) → r ≡ Err (refusal_at 10 k) → Closes j r
             close-over z q = record { is = λ c rs. q ∙ ap closing_of (sym (got_is c rs ∙ limited-no g k (ek ∙ ap over_limit ec) z)) }
 
 pub ruleset close_laws = (close-small, close_large, close-tag, close-length, close-fault, close-good, close-over)
@@ -142,26 +144,18 @@ pub ruleset word_laws = (word_low, word-high)
 abbrev saying : ℕ → ℕ → ℕ → ℕ → List ℕ → Answer
 saying n p v s cs = record { number = n; place = p; version = v; n_texs = s; counts = cs }
 
-pub refused-is : (n p x : ℕ) → x ≡ as_word p → (r : Answer) → r ≡ record { number = n; place = x; version = 0; n_texs = 0; counts = replicate 10 0 } → r ≡ word_answer (answer_by (Reject n p))
+pub refused-is : (n : Refusal) (x : ℕ) → x ≡ as_word n.place → (r : Answer) → r ≡ record { number = n.number; place = x; version = 0; n_texs = 0; counts = replicate 10 0 } → r ≡ word_answer (answer_by (Err n))
 unfolding as_word if
-refused-is n p x e r q = q ∙ ap (λ (y : ℕ). saying n y 0 0 (replicate 10 0)) e
+refused-is n x e r q = q ∙ ap (λ (y : ℕ). saying n.number y 0 0 (replicate 10 0)) e
 
 pub accepted-is : (g : Totals) (v s a b c d e f h i k l : ℕ) → v ≡ as_word g.version → s ≡ as_word g.slots → a ≡ as_word g.textures → b ≡ as_word g.brushes → c ≡ as_word g.rows.nodes
     → d ≡ as_word g.rows.meshes → e ≡ as_word g.rows.vertices → f ≡ as_word g.rows.sets → h ≡ as_word g.rows.triangles → i ≡ as_word g.rows.weights → k ≡ as_word g.rows.lists → l ≡ as_word g.rows.keys
-    → (r : Answer) → r ≡ record { number = 0; place = 0; version = v; n_texs = s; counts = a ∷ b ∷ c ∷ d ∷ e ∷ f ∷ h ∷ i ∷ k ∷ l ∷ [] } → r ≡ word_answer (answer_by (Accept g))
+    → (r : Answer) → r ≡ record { number = 0; place = 0; version = v; n_texs = s; counts = a ∷ b ∷ c ∷ d ∷ e ∷ f ∷ h ∷ i ∷ k ∷ l ∷ [] } → r ≡ word_answer (answer_by (Ok g))
 accepted-is g v s a b c d e f h i k l ev es ea eb ec ed ee ef eh ei ek el r q =
     q ∙ same
   where
     zero_word : 0 ≡ as_word 0
     zero_word = word_low 0 0 (omega arith) refl
 
-    same : saying 0 0 v s (a ∷ b ∷ c ∷ d ∷ e ∷ f ∷ h ∷ i ∷ k ∷ l ∷ []) ≡ word_answer (answer_by (Accept g))
+    same : saying 0 0 v s (a ∷ b ∷ c ∷ d ∷ e ∷ f ∷ h ∷ i ∷ k ∷ l ∷ []) ≡ word_answer (answer_by (Ok g))
     same = λ z. saying 0 (zero_word z) (ev z) (es z) (ea z ∷ eb z ∷ ec z ∷ ed z ∷ ee z ∷ ef z ∷ eh z ∷ ei z ∷ ek z ∷ el z ∷ [])
-
-pub answer-good : (c : Closing) (g : Totals) → c ≡ Accept g → (r : Answer) → r ≡ word_answer (answer_by (Accept g)) → r ≡ word_answer (answer_by c)
-answer-good c g e r q = rw e q
-
-pub answer-bad : (c : Closing) (n p : ℕ) → c ≡ Reject n p → (r : Answer) → r ≡ word_answer (answer_by (Reject n p)) → r ≡ word_answer (answer_by c)
-answer-bad c n p e r q = rw e q
-
-pub ruleset answer_laws = (answer-good, answer-bad)

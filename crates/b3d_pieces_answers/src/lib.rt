@@ -1,10 +1,10 @@
 // The answer of the piece judge at the close: checks 1 and 2 over all bytes joined, then what the machine found, then 10.
 #![tactic(auto)]
 
-ghost use Rattle.std.specs.Prelude.{◌≡◌, false};
+ghost use Rattle.std.specs.Prelude.{◌≡◌, false, Ok, Err};
+ghost use Rattle.layout.specs.Refused.{refusal_at};
 ghost use Rattle.b3d_judge_limits.specs.Limits.{tallied};
 ghost use Rattle.b3d_pieces_step.specs.Turns.{pends};
-ghost use Rattle.b3d_pieces_answers.specs.declared.Closing.TheVariants.{Accept, Reject};
 ghost use Rattle.b3d_pieces_answers.specs.Closes.{rows_in, as_word, answer_by, word_answer, EndIs, Closes};
 
 use b3d_judge_tally::Tally;
@@ -12,17 +12,10 @@ use b3d_pieces_item_steps::Now;
 use b3d_pieces_judge_step::Judge;
 use b3d_pieces_spec::Totals;
 use b3d_spec::{Answer, letters};
-use layout::{FEWEST_BYTES, MOST_BYTES, refusals};
+use layout::{FEWEST_BYTES, MOST_BYTES, Refusal, refusals};
 
 // The tag BB3D, which a file begins with, as a number.
 const OPENING: usize = letters::BB3D as usize;
-
-// What all bytes joined come to: the totals, or a refusal and its place.
-#[derive(Clone, Copy)]
-pub enum Closing {
-    Accept(Totals),
-    Reject(u32, usize),
-}
 
 // Returns the rows that `g` counted as a tally, with 0 bytes of copy.
 fn counted(g: Totals) -> Tally
@@ -46,47 +39,64 @@ fn counted(g: Totals) -> Tally
 
 // Returns what the machine has come to: the totals, or its refusal. Returns 15 at place 0 where a chunk waits to be entered or left, which is not between two
 // pieces.
-fn ended(held: Now) -> Closing
+fn ended(held: Now) -> Result<Totals, Refusal>
     ensures { EndIs held result }
 {
     match held {
-        Now::Live(_, _, g, _) => Closing::Accept(g),
-        Now::Push(_, _, _, _) => Closing::Reject(refusals::CLOSED, 0),
-        Now::Pop(_, _) => Closing::Reject(refusals::CLOSED, 0),
-        Now::Fault(n, p) => Closing::Reject(n, p),
-        Now::Over(g) => Closing::Accept(g),
+        Now::Live(_, _, g, _) => Ok(g),
+        Now::Push(_, _, _, _) => Err(Refusal {
+            number: refusals::CLOSED,
+            place: 0,
+        }),
+        Now::Pop(_, _) => Err(Refusal {
+            number: refusals::CLOSED,
+            place: 0,
+        }),
+        Now::Fault(number, place) => Err(Refusal { number, place }),
+        Now::Over(g) => Ok(g),
     }
 }
 
 // Returns what all bytes joined come to by `j`: check 1, then 2, then the machine's refusal, then 10; else the totals.
-pub fn closing_of(j: Judge) -> Closing
+pub fn closing_of(j: Judge) -> Result<Totals, Refusal>
     requires { pends j.now ≡ false }
     ensures { Closes j result }
 {
     let size = j.size;
     if size < FEWEST_BYTES {
-        return Closing::Reject(refusals::FILE_SIZE, 0);
+        return Err(Refusal {
+            number: refusals::FILE_SIZE,
+            place: 0,
+        });
     }
     if MOST_BYTES < size {
-        return Closing::Reject(refusals::FILE_SIZE, 0);
+        return Err(Refusal {
+            number: refusals::FILE_SIZE,
+            place: 0,
+        });
     }
     if j.letters != OPENING {
-        return Closing::Reject(refusals::FIRST_TAG, 0);
+        return Err(Refusal {
+            number: refusals::FIRST_TAG,
+            place: 0,
+        });
     }
     if j.length != size - 8 {
-        return Closing::Reject(refusals::FIRST_TAG, 4);
+        return Err(Refusal {
+            number: refusals::FIRST_TAG,
+            place: 4,
+        });
     }
     let now = j.now;
-    match ended(now) {
-        Closing::Reject(n, p) => Closing::Reject(n, p),
-        Closing::Accept(g) => {
-            let k = b3d_judge_limits::over_limit(counted(g));
-            if k == 0 {
-                return Closing::Accept(g);
-            }
-            Closing::Reject(refusals::TOO_MANY_ROWS, k)
-        }
+    let g = ended(now)?;
+    let k = b3d_judge_limits::over_limit(counted(g));
+    if k == 0 {
+        return Ok(g);
     }
+    Err(Refusal {
+        number: refusals::TOO_MANY_ROWS,
+        place: k,
+    })
 }
 
 // Returns `n` in 32 bits, or 0xFFFFFFFF if it is larger; no call leads to a larger one.
@@ -101,7 +111,7 @@ fn as_word(n: usize) -> u32
 
 // Returns the answer of a refusal with `number` at `place`: version, n_texs and counts are 0.
 pub fn refused(number: u32, place: usize) -> Answer
-    ensures { result ≡ word_answer (answer_by (Reject number place)) }
+    ensures { result ≡ word_answer (answer_by (Err (refusal_at number place))) }
 {
     let p = as_word(place);
     Answer {
@@ -115,7 +125,7 @@ pub fn refused(number: u32, place: usize) -> Answer
 
 // Returns the answer of an accepted file with the totals `g`.
 fn accepted(g: Totals) -> Answer
-    ensures { result ≡ word_answer (answer_by (Accept g)) }
+    ensures { result ≡ word_answer (answer_by (Ok g)) }
 {
     let n = g.rows;
     let version = as_word(g.version);
@@ -142,11 +152,11 @@ fn accepted(g: Totals) -> Answer
 }
 
 // Returns the answer for what all bytes joined come to.
-pub fn closing_answer(c: Closing) -> Answer
+pub fn closing_answer(c: Result<Totals, Refusal>) -> Answer
     ensures { result ≡ word_answer (answer_by c) }
 {
     match c {
-        Closing::Accept(g) => accepted(g),
-        Closing::Reject(n, p) => refused(n, p),
+        Ok(g) => accepted(g),
+        Err(e) => refused(e.number, e.place),
     }
 }

@@ -1,4 +1,6 @@
 -- The laws of a header, in the words of the code.
+use Rattle.std.specs.Prelude.{Some, None}
+use Rattle.std.specs.Prelude as std
 use mathlib.Core.Path.{◌≡◌, refl, ap, sym, ◌∙◌}
 use Prim.Native.Nat.{ℕ, zero, suc, ◌+◌, ◌-◌, ◌<◌, ◌≤◌}
 use native.Mathlib.Omega.{arith}
@@ -13,8 +15,6 @@ use Rattle.b3d_spec.specs.declared.Tag.TheVariants.{BB3D, TEXS, BRUS, NODE, MESH
 use Rattle.b3d_spec.specs.Tags.{tag_of}
 use Rattle.b3d_spec.specs.Nesting.{nesting, Reached, next, reached_at}
 use Rattle.b3d_spec.proofs.Files.EntryLaws.{same_tag}
-use Rattle.b3d_chunk_cursor.specs.declared.Tagged.{Tagged}
-use Rattle.b3d_chunk_cursor.specs.declared.Tagged.TheVariants.{Known, Other}
 use Rattle.b3d_chunk_cursor.specs.Chunks.{tagged}
 use Rattle.b3d_pieces_spec.specs.declared.Totals.{Totals}
 use Rattle.b3d_pieces_spec.specs.declared.Open.{Open}
@@ -23,8 +23,6 @@ use Rattle.b3d_pieces_spec.specs.Machine.{fault, fresh, reached_by, enter, enter
 use Rattle.b3d_pieces_spec.specs.Good.{Deep, Bound, sum, load, extra, Child}
 use Rattle.b3d_pieces_spec.proofs.DepthLaws.{none-words, child}
 use Rattle.b3d_rule_nesting_order.specs.declared.Reached.{Reached as Turns}
-use Rattle.b3d_rule_nesting_order.specs.declared.Permit.{Permit}
-use Rattle.b3d_rule_nesting_order.specs.declared.Permit.TheVariants.{No, Yes}
 use Rattle.b3d_rule_nesting_order.specs.Turns.{permit_of}
 use Rattle.b3d_pieces_item_steps.specs.declared.Now.{Now}
 use Rattle.b3d_pieces_item_steps.specs.declared.Now.TheVariants.{Push, Fault}
@@ -119,34 +117,34 @@ pub ruleset open_laws = (few_nodes, open_none, open_node, open_other)
 
 -- ---- standing
 
-permit_none : (o : Option Reached) → permit_of o ≡ No → o ≡ none
+permit_none : (o : Option Reached) → permit_of o ≡ None → o ≡ none
 permit_none none e = refl
 permit_none (some x) e = let z : ◌≡◌ {A = ℕ} 0 1 = cc in absurd (omega arith)
 
-permit_some : (o : Option Reached) (a : Turns) → permit_of o ≡ Yes a → o ≡ some (record { turn = a.turn; spent = a.spent })
+permit_some : (o : Option Reached) (a : Turns) → permit_of o ≡ Some a → o ≡ some (record { turn = a.turn; spent = a.spent })
 permit_some none a e = let z : ◌≡◌ {A = ℕ} 0 1 = cc in absurd (omega arith)
 permit_some (some x) a e =
     let p : x.turn ≡ a.turn = ap (turn_in a) e in
     let q : x.spent ≡ a.spent = ap (spent_in a) e in
     rw (← p, ← q)
   where
-    turn_in : Turns → Permit → ℕ
-    turn_in d No = d.turn
-    turn_in d (Yes r) = r.turn
+    turn_in : Turns → std.Option Turns → ℕ
+    turn_in d None = d.turn
+    turn_in d (Some r) = r.turn
 
-    spent_in : Turns → Permit → Bool
-    spent_in d No = d.spent
-    spent_in d (Yes r) = r.spent
+    spent_in : Turns → std.Option Turns → Bool
+    spent_in d None = d.spent
+    spent_in d (Some r) = r.spent
 
-module _ (t : Tag) (head e at : ℕ) (g : Totals) (f : Open) (r : Now) (x : Permit) (ex : x ≡ permit_of (next (nesting f.tag) (nesting f.tag) (reached_at f.turn f.spent) t)) where
+module _ (t : Tag) (head e at : ℕ) (g : Totals) (f : Open) (r : Now) (x : std.Option Turns) (ex : x ≡ permit_of (next (nesting f.tag) (nesting f.tag) (reached_at f.turn f.spent) t)) where
   abbrev o : Option Reached
   o = next (nesting f.tag) (nesting f.tag) (reached_by f) t
 
-  pub stand-no : x ≡ No → r ≡ Fault 4 head → Gives 1 at g f r (stand_here t head e at g f)
+  pub stand-no : x ≡ None → r ≡ Fault 4 head → Gives 1 at g f r (stand_here t head e at g f)
   unfolding stand_here stand
   stand-no z q = gives 1 at g f r (Fault 4 head) (stand_here t head e at g f) q tt (λ R. ap (λ (y : Option Reached). stand y t head e at g f R) (sym (permit_none o (sym ex ∙ z)))) (λ R d l. tt)
 
-  module _ (a : Turns) (z : x ≡ Yes a) where
+  module _ (a : Turns) (z : x ≡ Some a) where
     is_some : o ≡ some (record { turn = a.turn; spent = a.spent })
     is_some = permit_some o a (sym ex ∙ z)
 
@@ -166,11 +164,11 @@ pub ruleset stand_laws = (reaching_ready, stand-no, stand-at)
 
 -- ---- a header
 
-tag-none : (o : Option Tag) → tagged o ≡ Other → o ≡ none
+tag-none : (o : Option Tag) → tagged o ≡ None → o ≡ none
 tag-none none e = refl
 tag-none (some x) e = let z : ◌≡◌ {A = ℕ} 0 1 = cc in absurd (omega arith)
 
-tag-some : (o : Option Tag) (t : Tag) → tagged o ≡ Known t → o ≡ some t
+tag-some : (o : Option Tag) (t : Tag) → tagged o ≡ Some t → o ≡ some t
 tag-some none t e = let z : ◌≡◌ {A = ℕ} 0 1 = cc in absurd (omega arith)
 tag-some (some x) t e = let p : x ≡ t = cc in rw p
 
@@ -184,16 +182,16 @@ module _ (head tag n at : ℕ) (g : Totals) (f : Open) (r : Now) (y : ℕ) (ey :
       let l : f.end - at < n = omega arith in
       gives 1 at g f r (Fault 3 head) (header_done head tag n at g f) q tt (λ R. rw (lt-ltb (f.end - at) n l)) (λ R d l. tt)
 
-  module _ (h : n ≤ y) (x : Tagged) (ex : x ≡ tagged (tag_of tag)) where
+  module _ (h : n ≤ y) (x : std.Option Tag) (ex : x ≡ tagged (tag_of tag)) where
     inside : (R : List Open) → known (tag_of tag) head (at + n) at g f R ≡ header_done head tag n at g f R
     unfolding header_done if
     inside R = let l : n ≤ f.end - at = omega arith in rw (le-ltb (f.end - at) n l)
 
-    pub header-other : x ≡ Other → Gives 0 at g f r (skip_from (at + n) at g f) → Gives 1 at g f r (header_done head tag n at g f)
+    pub header-other : x ≡ None → Gives 0 at g f r (skip_from (at + n) at g f) → Gives 1 at g f r (header_done head tag n at g f)
     unfolding known
     header-other z q = gives-spare at g f r (skip_from (at + n) at g f) (header_done head tag n at g f) (λ R. ap (λ (o : Option Tag). known o head (at + n) at g f R) (sym (tag-none (tag_of tag) (sym ex ∙ z))) ∙ inside R) q
 
-    pub header-known : (t : Tag) → x ≡ Known t → Gives 1 at g f r (stand_here t head (at + n) at g f) → Gives 1 at g f r (header_done head tag n at g f)
+    pub header-known : (t : Tag) → x ≡ Some t → Gives 1 at g f r (stand_here t head (at + n) at g f) → Gives 1 at g f r (header_done head tag n at g f)
     unfolding known stand_here
     header-known t z q = gives-on 1 at g f r (stand_here t head (at + n) at g f) (header_done head tag n at g f) (λ R. ap (λ (o : Option Tag). known o head (at + n) at g f R) (sym (tag-some (tag_of tag) t (sym ex ∙ z))) ∙ inside R) q
 

@@ -7,14 +7,13 @@ ghost use Rattle.b3d_pieces_spec.specs.Machine.{fresh as fresh_of, header_done};
 ghost use Rattle.b3d_pieces_item_steps.specs.Nows.{Ready, Gives};
 ghost use Rattle.b3d_pieces_header_steps.specs.Heads.{OpensChunk, stand_here};
 
-use b3d_chunk_cursor::{Tagged, tag_of};
+use b3d_chunk_cursor::tag_of;
 use b3d_pieces_body_steps::{skip_from, texted};
 use b3d_pieces_item_steps::Now;
 use b3d_pieces_item_steps::between::less;
 use b3d_pieces_item_steps::nesting::stands;
 use b3d_pieces_spec::{NONE_KEPT, Open, Totals};
 use b3d_pieces_totals::node_begins;
-use b3d_rule_nesting_order::Permit;
 use b3d_spec::Tag;
 use layout::refusals;
 
@@ -63,15 +62,13 @@ fn stand_here(t: Tag, head: usize, e: usize, at: usize, g: Totals, f: Open) -> N
     let tag = f.tag;
     let turn = f.turn;
     let spent = f.spent;
-    match stands(tag, turn, spent, t) {
-        Permit::No => Now::Fault(refusals::NESTING, head),
-        Permit::Yes(reached) => {
-            let mut y = f;
-            y.turn = reached.turn as usize;
-            y.spent = reached.spent;
-            open_chunk(t, head, e, at, g, y)
-        }
-    }
+    let Some(reached) = stands(tag, turn, spent, t) else {
+        return Now::Fault(refusals::NESTING, head);
+    };
+    let mut y = f;
+    y.turn = reached.turn as usize;
+    y.spent = reached.spent;
+    open_chunk(t, head, e, at, g, y)
 }
 
 // Takes a header at `head` with `tag` and the length `n`: answers 3 there if the chunk runs past `f`, else opens it, or passes it over if its tag is unknown.
@@ -85,8 +82,8 @@ pub fn header_done(head: usize, tag: usize, n: usize, at: usize, g: Totals, f: O
         return Now::Fault(refusals::CUT_CHUNK, head);
     }
     let word = tag as u32;
-    match tag_of(word) {
-        Tagged::Other => skip_from(at + n, at, g, f),
-        Tagged::Known(t) => stand_here(t, head, at + n, at, g, f),
-    }
+    let Some(t) = tag_of(word) else {
+        return skip_from(at + n, at, g, f);
+    };
+    stand_here(t, head, at + n, at, g, f)
 }

@@ -1,4 +1,5 @@
 -- Past the last turn nothing may stand and nothing is owed.
+use Rattle.std.specs.Prelude as std
 use mathlib.Core.Path.{◌≡◌, refl, ap, sym, ◌∙◌}
 use Prim.Native.Nat.{ℕ, ◌<◌, ◌≤◌}
 use native.Mathlib.Omega.{arith}
@@ -14,7 +15,6 @@ use Rattle.b3d_spec.specs.declared.Tag.TheVariants.{BB3D, TEXS, BRUS, NODE, MESH
 use Rattle.b3d_spec.specs.Tags.{is}
 use Rattle.b3d_spec.specs.Nesting.{Often, Entry, entry, nesting, needed, Reached, required_between, end, may, after, next, reached_at}
 use Rattle.b3d_rule_nesting_order.specs.declared.Reached.{Reached as Turns}
-use Rattle.b3d_rule_nesting_order.specs.declared.Permit.{Permit}
 use Rattle.b3d_rule_nesting_order.specs.Turns.{reached_of, permit_of}
 use Rattle.b3d_pieces_item_steps.specs.Nests.{last_turn}
 
@@ -92,7 +92,7 @@ turn-high n s r h q = rw (last-high BB3D n h) q
 pub turn_lacks : (k : Tag) (n : ℕ) (s : Bool) (x : Turns) → x ≡ record { turn = last_turn n; spent = s } → (r : Bool) → r ≡ required_between (nesting k) x.turn end → r ≡ required_between (nesting k) n end
 turn_lacks k n s x e r q = q ∙ ap (λ (y : Turns). required_between (nesting k) y.turn end) e ∙ owed_last k n
 
-pub turn-stands : (k : Tag) (n : ℕ) (s : Bool) (t : Tag) (x : Turns) → x ≡ record { turn = last_turn n; spent = s } → (r : Permit) → r ≡ permit_of (next (nesting k) (nesting k) (reached_of x) t) → r ≡ permit_of (next (nesting k) (nesting k) (reached_at n s) t)
+pub turn-stands : (k : Tag) (n : ℕ) (s : Bool) (t : Tag) (x : Turns) → x ≡ record { turn = last_turn n; spent = s } → (r : std.Option Turns) → r ≡ permit_of (next (nesting k) (nesting k) (reached_of x) t) → r ≡ permit_of (next (nesting k) (nesting k) (reached_at n s) t)
 turn-stands k n s t x e r q = q ∙ ap (λ (y : Turns). permit_of (next (nesting k) (nesting k) (reached_of y) t)) e ∙ ap permit_of (next_last k n s t)
 
 pub ruleset nest_laws = (turn_low, turn-high, turn_lacks, turn-stands)

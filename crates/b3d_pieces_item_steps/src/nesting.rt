@@ -4,7 +4,7 @@ ghost use Rattle.b3d_spec.specs.Nesting.{nesting, required_between, end, next, r
 ghost use Rattle.b3d_rule_nesting_order.specs.Turns.{permit_of};
 ghost use Rattle.b3d_pieces_item_steps.specs.Nests.{last_turn};
 
-use b3d_rule_nesting_order::{Permit, Reached, is_permitted, owes};
+use b3d_rule_nesting_order::{Reached, is_permitted, owes};
 use b3d_spec::Tag;
 
 // Returns how far the nesting rule has come by a record's `turn`, 4 at most, and `spent`.
@@ -27,7 +27,7 @@ pub fn required_missing(tag: Tag, turn: usize) -> bool
 }
 
 // Returns whether a chunk of tag `inner` may stand inside one of tag `tag`, after `turn` and `spent`, and how far the nesting rule comes with it.
-pub fn stands(tag: Tag, turn: usize, spent: bool, inner: Tag) -> Permit
+pub fn stands(tag: Tag, turn: usize, spent: bool, inner: Tag) -> Option<Reached>
     ensures { result ≡ permit_of (next (nesting tag) (nesting tag) (reached_at turn spent) inner) }
 {
     let so_far = reached(turn, spent);

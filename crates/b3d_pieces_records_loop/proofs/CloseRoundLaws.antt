@@ -1,4 +1,6 @@
 -- The close: the row is only weighed, and it is lent to be read.
+use Rattle.layout.specs.Refused.{refusal_at}
+use Rattle.std.specs.Prelude.{Err}
 use mathlib.Core.Path.{◌≡◌, refl, ap, ◌∙◌}
 use Prim.Native.Nat.{ℕ}
 use mathlib.Core.Bool.{Bool, true, false}
@@ -11,7 +13,6 @@ use Rattle.b3d_pieces_state.specs.declared.OpenRecord.{OpenRecord}
 use Rattle.b3d_pieces_state.specs.declared.PieceState.{PieceState}
 use Rattle.b3d_pieces_state.specs.States.{judge_in}
 use Rattle.b3d_pieces_state.proofs.StateLaws.{state-back}
-use Rattle.b3d_pieces_answers.specs.declared.Closing.TheVariants.{Reject}
 use Rattle.b3d_pieces_answers.specs.Closes.{answer_by, word_answer}
 use Rattle.b3d_pieces_words.specs.Called.{shutting, CloseIs}
 use Rattle.b3d_pieces_words.proofs.CallLaws.{short-close, shut-close, other-close, taken-close}
@@ -39,8 +40,8 @@ module _ (s : PieceState) (xs : List OpenRecord) (w : RowWeight) (i : Weighing s
       (λ k o. shut-close numbers s xs r.answer r.state k o (says 15 0 (d.shut k o) place_fifteen) (l.state f))
       (λ k o. other-close numbers s xs r.answer r.state k o (d.unfit k o f) (says 15 0 (d.number k o f) place_fifteen) (l.state f))
     where
-      says : (a b : ℕ) → m ≡ a → place_of a ≡ b → r.answer ≡ word_answer (answer_by (Reject a b))
-      says a b ea eb = l.refused f ∙ ap (λ (x : ℕ). word_answer (answer_by (Reject x (place_of x)))) ea ∙ ap (λ (x : ℕ). word_answer (answer_by (Reject a x))) eb
+      says : (a b : ℕ) → m ≡ a → place_of a ≡ b → r.answer ≡ word_answer (answer_by (Err (refusal_at a b)))
+      says a b ea eb = l.refused f ∙ ap (λ (x : ℕ). word_answer (answer_by (Err (refusal_at x (place_of x))))) ea ∙ ap (λ (x : ℕ). word_answer (answer_by (Err (refusal_at a x)))) eb
 
   taken : m ≡ 0 → CloseIs numbers s xs r.answer r.state
   taken z =

@@ -1,4 +1,9 @@
 -- The laws of the rounds' functions, in the words of the code.
+use Rattle.layout.specs.Refused.{refusal_at}
+use Rattle.layout.specs.declared.Refusal.{Refusal}
+use Rattle.std.specs.Prelude.{Err}
+use Rattle.std.specs.Prelude as std
+use Rattle.b3d_pieces_spec.specs.declared.Totals.{Totals}
 use mathlib.Core.Path.{◌≡◌, refl, ap, sym, subst, ◌∙◌}
 use Prim.Native.Nat.{ℕ, ◌<◌, ◌≤◌}
 use native.Mathlib.Omega.{arith}
@@ -28,8 +33,6 @@ use Rattle.b3d_pieces_state.specs.declared.PieceFed.{PieceFed}
 use Rattle.b3d_pieces_state.specs.Records.{open_in, record_of}
 use Rattle.b3d_pieces_state.specs.States.{now_by, judge_in, state_of}
 use Rattle.b3d_pieces_state.proofs.RecordLaws.{record_back}
-use Rattle.b3d_pieces_answers.specs.declared.Closing.{Closing}
-use Rattle.b3d_pieces_answers.specs.declared.Closing.TheVariants.{Reject}
 use Rattle.b3d_pieces_answers.specs.Closes.{closing_of, answer_by, word_answer, Closes}
 use Rattle.b3d_pieces_words.specs.Called.{shutting}
 use Rattle.b3d_pieces_records_tests.specs.declared.RowWeight.{RowWeight}
@@ -111,23 +114,23 @@ module _ (w : RowWeight) (s : PieceState) (j : Judge) (ej : j ≡ judge_in s) wh
     number_is : NumberIs w (judge_in s) m
     number_is = subst (λ (x : Judge). NumberIs w x m) ej k
 
-    pub closed-taken : m ≡ 0 → (v : Closing) → Closes j v → (x : Answer) → x ≡ word_answer (answer_by v) → (z : PieceState) → z ≡ state_of (shutting j) → r ≡ record { answer = x; state = z } → ClosedIs w s r
+    pub closed-taken : m ≡ 0 → (v : std.Result Totals Refusal) → Closes j v → (x : Answer) → x ≡ word_answer (answer_by v) → (z : PieceState) → z ≡ state_of (shutting j) → r ≡ record { answer = x; state = z } → ClosedIs w s r
     closed-taken e v c x ex z ez q = rw q (record {
       number = m;
       says = number_is;
-      answer = λ y rs. ex ∙ ap (λ (u : Closing). word_answer (answer_by u)) (c.is close-calm rs) ∙ ap (λ (u : Judge). word_answer (answer_by (closing_of (closing (held_of u rs))))) ej;
+      answer = λ y rs. ex ∙ ap (λ (u : std.Result Totals Refusal). word_answer (answer_by u)) (c.is close-calm rs) ∙ ap (λ (u : Judge). word_answer (answer_by (closing_of (closing (held_of u rs))))) ej;
       next = λ y. ez ∙ ap (λ (u : Judge). state_of (shutting u)) ej;
       refused = λ f. absurd (f e);
       state = λ f. absurd (f e);
     })
 
-    pub closed-refused : (m ≡ 0 → ⊥) → (place : ℕ) → place ≡ place_of m → (x : Answer) → x ≡ word_answer (answer_by (Reject m place)) → r ≡ record { answer = x; state = s } → ClosedIs w s r
+    pub closed-refused : (m ≡ 0 → ⊥) → (place : ℕ) → place ≡ place_of m → (x : Answer) → x ≡ word_answer (answer_by (Err (refusal_at m place))) → r ≡ record { answer = x; state = s } → ClosedIs w s r
     closed-refused f place ep x ex q = rw q (record {
       number = m;
       says = number_is;
       answer = λ y rs. absurd (f y);
       next = λ y. absurd (f y);
-      refused = λ g. ex ∙ ap (λ (u : ℕ). word_answer (answer_by (Reject m u))) ep;
+      refused = λ g. ex ∙ ap (λ (u : ℕ). word_answer (answer_by (Err (refusal_at m u)))) ep;
       state = λ g. refl;
     })
 

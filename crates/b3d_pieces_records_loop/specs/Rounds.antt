@@ -1,5 +1,6 @@
 -- What the rounds promise, over any row. A row is known by how many records it has, n, and by the open chunk at each place, rs.
-use Rattle.std.specs.Prelude.{◌≡◌, ℕ, ◌<◌, ◌≤◌, List, length, get_or, ltb}
+use Rattle.layout.specs.Refused.{refusal_at}
+use Rattle.std.specs.Prelude.{◌≡◌, ℕ, ◌<◌, ◌≤◌, List, length, get_or, ltb, Err}
 use Rattle.b3d_pieces_spec.specs.Limits.{over_counted}
 use Rattle.b3d_pieces_spec.specs.declared.Open.{Open}
 use Rattle.b3d_pieces_spec.specs.Close.{closing}
@@ -12,7 +13,6 @@ use Rattle.b3d_pieces_state.specs.declared.PieceState.{PieceState}
 use Rattle.b3d_pieces_state.specs.declared.PieceFed.{PieceFed}
 use Rattle.b3d_pieces_state.specs.Records.{open_in}
 use Rattle.b3d_pieces_state.specs.States.{judge_in, state_of}
-use Rattle.b3d_pieces_answers.specs.declared.Closing.TheVariants.{Reject}
 use Rattle.b3d_pieces_answers.specs.Closes.{closing_of, answer_by, word_answer}
 use Rattle.b3d_pieces_words.specs.Called.{Holding, shutting}
 use Rattle.b3d_pieces_records_tests.specs.declared.RowWeight.{RowWeight}
@@ -106,6 +106,6 @@ pub record ClosedIs (w : RowWeight) (s : PieceState) (r : PieceClosed) : Type 0 
   -- on 0 the file is closed
   pub next : number ≡ 0 → r.state ≡ state_of (shutting (judge_in s))
   -- on a refusal it has only the number and the place
-  pub refused : (number ≡ 0 → ⊥) → r.answer ≡ word_answer (answer_by (Reject number (place_of number)))
+  pub refused : (number ≡ 0 → ⊥) → r.answer ≡ word_answer (answer_by (Err (refusal_at number (place_of number))))
   -- on a refusal the state is as it was
   pub state : (number ≡ 0 → ⊥) → r.state ≡ s

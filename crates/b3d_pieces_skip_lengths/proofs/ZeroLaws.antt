@@ -15,4 +15,7 @@ module _ (p : List ℕ) (from last at : ℕ) (i : UntilZero p from last at) wher
   pub zero-next : at < last → (get_or p at 0 ≡ 0 → ⊥) → UntilZero p from last (at + 1)
   zero-next h z = record { ahead = (let a = i.ahead in omega arith); within = omega arith; text = λ k a b. ⊎_elim (λ (e : k ≡ at). λ y. z (ap (λ (n : ℕ). get_or p n 0) (sym e) ∙ y)) (λ (l : k < at). i.text k a l) (eq-or-lt_of_le {n = k} {m = at} (omega arith)) }
 
-pub ruleset zero_laws = (zero-first, zero-next)
+  pub zero-none : last ≤ at → UntilZero p from last last
+  zero-none h = let e : at ≡ last = (let a = i.within in omega arith) in rw e at i
+
+pub ruleset zero_laws = (zero-first, zero-next, zero-none)

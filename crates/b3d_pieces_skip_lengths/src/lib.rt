@@ -38,12 +38,10 @@ pub fn until_zero(piece: &[u8], from: usize, last: usize) -> usize
     requires { (from ≤ last) × (last ≤ length piece.now) }
     ensures { UntilZero piece.now from last result }
 {
-    let mut at = from;
-    while at < last {
+    for at in from..last {
         if piece[at] == 0 {
             return at;
         }
-        at += 1;
     }
-    at
+    last
 }

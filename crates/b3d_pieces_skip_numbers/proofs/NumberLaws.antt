@@ -318,7 +318,7 @@ module _ (p : List ℕ) (last : ℕ) (x : RowPlace) (stop : ℕ) where
           three = omega arith;
         }
 
-    pub gathering_done : (r : RowPlace) → r ≡ record { from = from; at = x.at; start = x.start; i = x.i; j = j; acc = acc; kept = x.kept; count = x.count } → Gathered p last x r
-    gathering_done r e = rw e i.gathered
+    pub gathering_done : stop ≤ from → (r : RowPlace) → r ≡ record { from = stop; at = x.at; start = x.start; i = x.i; j = j; acc = acc; kept = x.kept; count = x.count } → Gathered p last x r
+    gathering_done h r e = let z : from ≡ stop = (let b = i.before in omega arith) in rw (e, ← z) i.gathered
 
 pub ruleset gathering_laws = (gathering_first, gathering_read, gathering_three, gathering_low, gathering_most, gathering_next, gathering_done)

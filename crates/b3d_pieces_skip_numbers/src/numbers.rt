@@ -140,18 +140,16 @@ pub fn gather(x: RowPlace, piece: &[u8], last: usize) -> RowPlace
     requires { Sound last x × (last ≤ length piece.now) }
     ensures { Gathered piece.now last x result }
 {
-    let mut from = x.from;
     let mut j = x.j;
     let mut acc = x.acc;
-    let more = lower(last - from, 3 - j);
-    let stop = from + more;
-    while from < stop {
+    let more = lower(last - x.from, 3 - j);
+    let stop = x.from + more;
+    for from in x.from..stop {
         acc = gathered(j, acc, piece[from]);
         j += 1;
-        from += 1;
     }
     let mut y = x;
-    y.from = from;
+    y.from = stop;
     y.j = j;
     y.acc = acc;
     y

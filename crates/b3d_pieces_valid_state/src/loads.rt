@@ -15,8 +15,7 @@ pub fn stack_rows_to_add(row: &[usize], n: usize) -> usize
     ensures { RowFits (open_at row.now) n result }
 {
     let mut total: usize = 0;
-    let mut i = 0;
-    while i < n {
+    for i in 0..n {
         let f = open_at(row, i);
         let v = rows_to_add(f, i);
         let sum = total + v;
@@ -24,7 +23,6 @@ pub fn stack_rows_to_add(row: &[usize], n: usize) -> usize
             return OVER_COUNTED;
         }
         total = sum;
-        i += 1;
     }
     total
 }

@@ -1,4 +1,8 @@
 -- The laws of the calls, in the words of the code.
+use Rattle.layout.specs.Refused.{refusal_at}
+use Rattle.std.specs.Prelude.{Err}
+use Rattle.std.specs.Prelude as std
+use Rattle.layout.specs.declared.Refusal.{Refusal}
 use mathlib.Core.Path.{◌≡◌, refl, ap, sym, ◌∙◌}
 use Prim.Native.Nat.{ℕ, ◌/◌, ◌<◌, ◌≤◌}
 use native.Mathlib.Omega.{arith}
@@ -18,8 +22,6 @@ use Rattle.b3d_pieces_judge_step.specs.Takes.{held_of}
 use Rattle.b3d_pieces_judge_step.specs.Runs.{CanRun, RunIs}
 use Rattle.b3d_pieces_valid_record.specs.Tests.{Tests}
 use Rattle.b3d_spec.specs.declared.Answer.{Answer}
-use Rattle.b3d_pieces_answers.specs.declared.Closing.{Closing}
-use Rattle.b3d_pieces_answers.specs.declared.Closing.TheVariants.{Reject}
 use Rattle.b3d_pieces_answers.specs.Closes.{closing_of, as_word, answer_by, word_answer, Closes}
 use Rattle.b3d_pieces_words.specs.Called.{Holding, words, fresh_judge, Fresh, PieceIs, shutting, CloseIs}
 
@@ -95,17 +97,17 @@ pub ruleset piece_laws = (can-run, piece-short, piece-shut, piece-other, piece-t
 -- ---- the close, however state and row are held
 
 module _ {S R : Type 0} (h : Holding S R) (st : S) (row : R) (x : Answer) (next : S) where
-  pub short-close : h.count row < 19 → x ≡ word_answer (answer_by (Reject 11 19)) → next ≡ st → CloseIs h st row x next
+  pub short-close : h.count row < 19 → x ≡ word_answer (answer_by (Err (refusal_at 11 19))) → next ≡ st → CloseIs h st row x next
   unfolding as_word if
   short-close k ex es = record { short = λ l. record { answer = ex; state = es }; shut = λ l z. absurd (omega arith); taken = λ l z c. absurd (omega arith); other = λ l z c. absurd (omega arith) }
 
   module _ (l : 19 ≤ h.count row) where
-    pub shut-close : (h.judge st).shut ≡ true → x ≡ word_answer (answer_by (Reject 15 0)) → next ≡ st → CloseIs h st row x next
+    pub shut-close : (h.judge st).shut ≡ true → x ≡ word_answer (answer_by (Err (refusal_at 15 0))) → next ≡ st → CloseIs h st row x next
     unfolding as_word if
     shut-close o ex es = record { short = λ k. absurd (omega arith); shut = λ k z. record { answer = ex; state = es }; taken = λ k z c. none (sym z ∙ o); other = λ k z c. none (sym z ∙ o) }
 
     module _ (o : (h.judge st).shut ≡ false) where
-      pub other-close : (CanRun (h.judge st) (h.count row) (h.at row) → ⊥) → x ≡ word_answer (answer_by (Reject 15 0)) → next ≡ st → CloseIs h st row x next
+      pub other-close : (CanRun (h.judge st) (h.count row) (h.at row) → ⊥) → x ≡ word_answer (answer_by (Err (refusal_at 15 0))) → next ≡ st → CloseIs h st row x next
       unfolding as_word if
       other-close f ex es = record { short = λ k. absurd (omega arith); shut = λ k z. none (sym o ∙ z); taken = λ k z c. absurd (f c); other = λ k z c. record { answer = ex; state = es } }
 
@@ -115,19 +117,19 @@ module _ {S R : Type 0} (h : Holding S R) (st : S) (row : R) (x : Answer) (next 
 -- ---- over words
 
 module _ (j : Judge) (row : List ℕ) (x : Answer) (y : Judge) where
-  pub close-short : length row < 209 → x ≡ word_answer (answer_by (Reject 11 19)) → y ≡ j → CloseIs words j row x y
+  pub close-short : length row < 209 → x ≡ word_answer (answer_by (Err (refusal_at 11 19))) → y ≡ j → CloseIs words j row x y
   close-short h = short-close words j row x y (omega arith)
 
   module _ (l : 209 ≤ length row) where
-    pub close-shut : j.shut ≡ true → x ≡ word_answer (answer_by (Reject 15 0)) → y ≡ j → CloseIs words j row x y
+    pub close-shut : j.shut ≡ true → x ≡ word_answer (answer_by (Err (refusal_at 15 0))) → y ≡ j → CloseIs words j row x y
     close-shut = shut-close words j row x y (omega arith)
 
     module _ (o : j.shut ≡ false) (b : Bool) (tb : Tests b (CanRun j (length row / 11) (open_at row))) where
-      pub close_other : b ≡ false → x ≡ word_answer (answer_by (Reject 15 0)) → y ≡ j → CloseIs words j row x y
+      pub close_other : b ≡ false → x ≡ word_answer (answer_by (Err (refusal_at 15 0))) → y ≡ j → CloseIs words j row x y
       close_other e = other-close words j row x y (omega arith) o (refuses b tb e)
 
-      pub close-taken : b ≡ true → (v : Closing) → Closes j v → x ≡ word_answer (answer_by v) → y ≡ shutting j → CloseIs words j row x y
-      close-taken e v w ex = taken-close words j row x y (omega arith) o (tb.yes e) (ex ∙ ap (λ (c : Closing). word_answer (answer_by c)) (w.is (tb.yes e).calm (open_at row)))
+      pub close-taken : b ≡ true → (v : std.Result Totals Refusal) → Closes j v → x ≡ word_answer (answer_by v) → y ≡ shutting j → CloseIs words j row x y
+      close-taken e v w ex = taken-close words j row x y (omega arith) o (tb.yes e) (ex ∙ ap (λ (c : std.Result Totals Refusal). word_answer (answer_by c)) (w.is (tb.yes e).calm (open_at row)))
 
 pub calm_run : (j : Judge) (row : List ℕ) (b : Bool) → Tests b (CanRun j (length row / 11) (open_at row)) → b ≡ true → pends j.now ≡ false
 calm_run j row b t e = (t.yes e).calm

@@ -1,5 +1,6 @@
 -- What the calls answer and leave, however a caller holds state and row (`Holding`).
-use Rattle.std.specs.Prelude.{◌≡◌, ℕ, ◌/◌, ◌<◌, ◌≤◌, true, false, List, [], ◌∷◌, length}
+use Rattle.layout.specs.Refused.{refusal_at}
+use Rattle.std.specs.Prelude.{◌≡◌, ℕ, ◌/◌, ◌<◌, ◌≤◌, true, false, List, [], ◌∷◌, length, Err}
 use Rattle.b3d_pieces_spec.specs.declared.Open.{Open}
 use Rattle.b3d_pieces_spec.specs.Row.{open_at, record_words}
 use Rattle.wire.specs.Bytes.{AllBytes}
@@ -15,7 +16,6 @@ use Rattle.b3d_pieces_step.specs.Turns.{pends}
 use Rattle.b3d_pieces_judge_step.specs.declared.Judge.{Judge}
 use Rattle.b3d_pieces_judge_step.specs.Takes.{held_of, GoodJudge}
 use Rattle.b3d_pieces_judge_step.specs.Runs.{CanRun, RunIs}
-use Rattle.b3d_pieces_answers.specs.declared.Closing.TheVariants.{Reject}
 use Rattle.b3d_pieces_answers.specs.Closes.{closing_of, answer_by, word_answer}
 
 -- a way to hold state and row: S is the type of a state, R of a row
@@ -81,7 +81,7 @@ shutting j = record { size = j.size; worth = j.worth; letters = j.letters; lengt
 -- the close is refused with n at p
 pub record NotClosed {S : Type 0} (n p : ℕ) (st : S) (a : Answer) (next : S) : Type 0 where
   -- the answer a has only that number and place
-  pub answer : a ≡ answer_by (Reject n p)
+  pub answer : a ≡ answer_by (Err (refusal_at n p))
   -- the state is as it was
   pub state : next ≡ st
 

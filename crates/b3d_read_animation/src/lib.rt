@@ -6,7 +6,6 @@ ghost use Rattle.std.proofs.lemmas.List.Edits.{sets as stored};
 ghost use Rattle.layout.specs.Rows.{joined};
 ghost use Rattle.b3d_spec_plain_rows.specs.Rows.{file_rows};
 
-use b3d_chunk_walk::Flat;
 use b3d_spec::{KEY_LIST_WIDTH, Tag, WEIGHT_WIDTH};
 
 // Stores the rows of tables 8, 9 and 10 of `file` in `weights`, `lists` and `keys`. The cells behind them stay as they were.
@@ -27,19 +26,21 @@ pub fn store_animation(file: &[u8], weights: &mut [u32], lists: &mut [u32], keys
     let mut to9: usize = 0;
     let mut to10: usize = 0;
     loop {
-        let Flat::Chunk(tag, _, body, next) = b3d_chunk_walk::flat_next(file, at) else {
+        let Some(chunk) = b3d_chunk_walk::flat_next(file, at) else {
             return;
         };
-        if b3d_chunk_cursor::same(tag, Tag::KEYS) {
-            to10 = b3d_read_item_rows::store_keys(file, body, to10, keys);
+        if b3d_chunk_cursor::same(chunk.tag, Tag::KEYS) {
+            to10 = b3d_read_item_rows::store_keys(file, chunk.body, to10, keys);
             let node = b3d_chunk_walk::current(nodes);
-            count += b3d_read_item_rows::store_group(file, body, true, node, count, to9, lists);
+            count += b3d_read_item_rows::store_group(
+                file, chunk.body, true, node, count, to9, lists,
+            );
             to9 += KEY_LIST_WIDTH;
-        } else if b3d_chunk_cursor::same(tag, Tag::NODE) {
+        } else if b3d_chunk_cursor::same(chunk.tag, Tag::NODE) {
             nodes += 1;
-        } else if b3d_chunk_cursor::same(tag, Tag::BONE) {
-            to8 = b3d_read_item_rows::store_items(file, body, WEIGHT_WIDTH, to8, weights);
+        } else if b3d_chunk_cursor::same(chunk.tag, Tag::BONE) {
+            to8 = b3d_read_item_rows::store_items(file, chunk.body, WEIGHT_WIDTH, to8, weights);
         }
-        at = next;
+        at = chunk.next;
     }
 }

@@ -1,4 +1,7 @@
 -- A law for each way through `judge_answer` and `answer_for`.
+use Rattle.std.specs.Prelude.{Ok, Err}
+use Rattle.std.specs.Prelude as std
+use Rattle.layout.specs.declared.Refusal.{Refusal}
 use Rattle.b3d_judge.proofs.VerdictLaws.{Good, was-bad, was-good}
 use mathlib.Core.Path.{◌≡◌, refl, ap, sym, ◌∙◌}
 use Prim.Native.Nat.{ℕ, ◌*◌, ◌<◌, ◌≤◌}
@@ -25,8 +28,6 @@ use Rattle.b3d_spec.proofs.AnswerLaws.{judge_got, judge-first}
 use Rattle.b3d_judge_tally.specs.Tally.{tally_of}
 use Rattle.b3d_judge.specs.Answers.{verdict_of}
 use Rattle.b3d_judge_file_body.specs.declared.Summary.{Summary}
-use Rattle.b3d_judge_file_body.specs.declared.Verdict.{Verdict}
-use Rattle.b3d_judge_file_body.specs.declared.Verdict.TheVariants as verdict
 use Rattle.shared_room.specs.Rooms.{number_of, first_short}
 use Rattle.shared_room.proofs.RoomLaws.{each-short, each_room}
 use Rattle.b3d_judge_limits.specs.Rooms.{counts_in}
@@ -61,22 +62,22 @@ accepted-is : (t : Scene) → accepted_as t.version t.slots (tally_of t) ≡ ans
 unfolding accepted_as answer counts_in counts tables node_tables
 accepted-is t = refl
 
-module _ (mode : Mode) (s : List ℕ) (v : Verdict) (ev : v ≡ verdict_of (judge mode s)) where
-  module _ (e p : ℕ) (w : v ≡ verdict.Reject e p) where
-    bad-is : judge mode s ≡ reject e p
-    bad-is = was-bad (judge mode s) e p (sym ev ∙ w)
+module _ (mode : Mode) (s : List ℕ) (v : std.Result Summary Refusal) (ev : v ≡ verdict_of (judge mode s)) where
+  module _ (e : Refusal) (w : v ≡ Err e) where
+    bad-is : judge mode s ≡ reject e.number e.place
+    bad-is = was-bad (judge mode s) e (sym ev ∙ w)
 
-    pub place-fits : p < 4294967296
-    place-fits = let h = judge-place mode s e p bad-is in omega arith
+    pub place-fits : e.place < 4294967296
+    place-fits = let h = judge-place mode s e.number e.place bad-is in omega arith
 
-    pub judge-bad : (y : Answer) → y ≡ answer (reject e p) → y ≡ answer (judge mode s)
+    pub judge-bad : (y : Answer) → y ≡ answer (reject e.number e.place) → y ≡ answer (judge mode s)
     judge-bad y h = h ∙ ap answer (sym bad-is)
 
-    pub answer-bad : (room : ℕ → ℕ) (y : Answer) → y ≡ answer (reject e p) → y ≡ read_answer mode room s
+    pub answer-bad : (room : ℕ → ℕ) (y : Answer) → y ≡ answer (reject e.number e.place) → y ≡ read_answer mode room s
     unfolding read_answer
-    answer-bad room y h = h ∙ ap answer (sym (judge-first mode s e p bad-is room))
+    answer-bad room y h = h ∙ ap answer (sym (judge-first mode s e.number e.place bad-is room))
 
-  module _ (x : Summary) (w : v ≡ verdict.Accept x) where
+  module _ (x : Summary) (w : v ≡ Ok x) where
     good : Good (judge mode s) x
     good = was-good (judge mode s) x (sym ev ∙ w)
 

@@ -5,7 +5,6 @@ ghost use Rattle.std.specs.Prelude.{◌≡◌, [], ◌∷◌};
 ghost use Rattle.b3d_spec.specs.Answers.{judge, answer, read_answer};
 ghost use Rattle.shared_room.specs.Rooms.{number_of};
 
-use b3d_judge_file_body::Verdict;
 use b3d_spec::{Answer, Mode};
 
 // Returns the reader's answer for `file` in `mode` with ample tables: refusals 1 to 10, or 0 with version, n_texs and counts.
@@ -13,8 +12,8 @@ pub fn judge_answer(mode: Mode, file: &[u8]) -> Answer
     ensures { result ≡ answer (judge mode file.now) }
 {
     match b3d_judge::judge(mode, file) {
-        Verdict::Reject(number, place) => b3d_read_answer_numbers::refused(number, place),
-        Verdict::Accept(x) => b3d_read_answer_numbers::accepted(x.version, x.n_texs, x.tally),
+        Err(r) => b3d_read_answer_numbers::refused(r.number, r.place),
+        Ok(x) => b3d_read_answer_numbers::accepted(x.version, x.n_texs, x.tally),
     }
 }
 
@@ -36,8 +35,8 @@ pub fn answer_for(
     ensures { result ≡ read_answer mode (number_of (l1 ∷ l2 ∷ l3 ∷ l4 ∷ l5 ∷ l6 ∷ l7 ∷ l8 ∷ l9 ∷ l10 ∷ [])) file.now }
 {
     match b3d_judge::judge(mode, file) {
-        Verdict::Reject(e, p) => b3d_read_answer_numbers::refused(e, p),
-        Verdict::Accept(x) => b3d_read_answer_numbers::with_room(
+        Err(e) => b3d_read_answer_numbers::refused(e.number, e.place),
+        Ok(x) => b3d_read_answer_numbers::with_room(
             x.version, x.n_texs, x.tally, l1, l2, l3, l4, l5, l6, l7, l8, l9, l10,
         ),
     }

@@ -23,6 +23,7 @@ fn below(file: &[u8], rows: &[u32], nodes: usize, i: usize) -> usize
 {
     let end = end_of(file, wire::size(rows[NODE_WIDTH * i]));
     let mut j = i + 1;
+    // Stays a `while`: a node is passed together with those below it, so that no index counts.
     while j < nodes {
         let row = NODE_WIDTH * j;
         let name = wire::size(rows[row]);
@@ -46,12 +47,9 @@ pub fn store_branch_words(file: &[u8], nodes: usize, out: &mut [u32])
     requires { Branchless file.now out.old nodes }
     ensures { Branched file.now out.old nodes out.new }
 {
-    let mut i = nodes;
-    while 0 < i {
-        let node = i - 1;
+    for node in (0..nodes).rev() {
         let word = shared_table_words::cell(below(file, out, nodes, node));
         let o = NODE_WIDTH * node + columns::NODE_BELOW;
         out[o] = word;
-        i = node;
     }
 }

@@ -50,13 +50,8 @@ pub fn fill_keys(
     let position = wire::size(flags % 2 * 3);
     let scale = wire::size(flags / 2 % 2 * 3);
     let turn = wire::size(flags / 4 % 2 * 4);
-    let mut left = count;
-    let mut at = c.at;
-    let mut o = base;
-    while 0 < left {
-        store_key(file, at, position, scale, turn, o, out);
-        at += 4 * words;
-        o += KEY_WIDTH;
-        left -= 1;
+    for i in 0..count {
+        let at = c.at + i * (4 * words);
+        store_key(file, at, position, scale, turn, base + i * KEY_WIDTH, out);
     }
 }

@@ -1,4 +1,7 @@
 -- Tables 1 and 2 are rows of texts: the first TEXS and the first BRUS of a file.
+use Rattle.std.specs.Prelude.{Some, None}
+use Rattle.std.specs.Prelude as std
+use Rattle.b3d_chunk_walk.specs.declared.Sought.{Sought}
 use mathlib.Core.Path.{◌≡◌, refl, ap, ap₂, sym, ◌∙◌}
 use Prim.Native.Nat.{ℕ, zero, suc, ◌+◌, ◌-◌, ◌*◌, ◌<◌, ◌≤◌}
 use native.Mathlib.Omega.{arith}
@@ -28,8 +31,6 @@ use Rattle.b3d_spec_plain_rows.specs.Plain.{next_item, named_in, named_items}
 use Rattle.b3d_spec_plain_rows.specs.Rows.{first_of, texture_rows, brushes_of, brush_rows, file_rows}
 use Rattle.b3d_chunk_walk.specs.Seeks.{seek_of, sought_of, Seeks, FirstWord}
 use Rattle.b3d_chunk_walk.specs.declared.Headed.{Headed}
-use Rattle.b3d_chunk_walk.specs.declared.Sought.{Sought}
-use Rattle.b3d_chunk_walk.specs.declared.Sought.TheVariants as sought
 use Rattle.b3d_chunk_walk.proofs.SeekLaws.{by_seek, sought_among, sought_body}
 use Rattle.b3d_chunk_walk.proofs.FlatLaws.{from-left}
 use Rattle.b3d_read_materials.specs.Texts.{named_row, FirstIs}
@@ -107,33 +108,33 @@ pub file-inside : (s : List ℕ) → 12 ≤ length s → Inside (span 12 (length
 file-inside s h = record { before = h; within = omega arith }
 
 module _ (s : List ℕ) (k : Tag) where
-  pub first_small : length s < 12 → FirstIs s k sought.Nothing
+  pub first_small : length s < 12 → FirstIs s k None
   unfolding rest seek_of
-  first_small h = record { says = ap (seek_of k) (ap (split 12) (drop_of_length-le s {i = 12} (omega arith)) ∙ split-none tag_of 12); body = λ p b n w. let z : ◌≡◌ {A = ℕ} 0 1 = cc in absurd (omega arith) }
+  first_small h = record { says = ap (seek_of k) (ap (split 12) (drop_of_length-le s {i = 12} (omega arith)) ∙ split-none tag_of 12); body = λ f w. let z : ◌≡◌ {A = ℕ} 0 1 = cc in absurd (omega arith) }
 
-  pub first_sought : 12 ≤ length s → (r : Sought) → Seeks s (span 12 (length s)) k r → FirstIs s k r
+  pub first_sought : 12 ≤ length s → (r : std.Option Sought) → Seeks s (span 12 (length s)) k r → FirstIs s k r
   unfolding rest
   first_sought le r x = record {
     says = ap (λ (l : List ℕ). seek_of k (split 12 l)) (sym (from-left s 12)) ∙ x.says;
-    body = λ p b n w.
-        let f = sought_among s (span 12 (length s)) k r x p b n w in
-        let i = sought_body s (span 12 (length s)) k r x p b n w (length s) (file-inside s le) in
+    body = λ g w.
+        let f = sought_among s (span 12 (length s)) k r x g w in
+        let i = sought_body s (span 12 (length s)) k r x g w (length s) (file-inside s le) in
         record { head = f.body; room = i.before; within = i.within };
   }
 
 pub ruleset chunk_laws = (file-inside, first_small, first_sought)
 
-module _ (s : List ℕ) (k : Tag) (one : ℕ → List ℕ → List (List ℕ)) (r : Sought) (x : FirstIs s k r) where
-  found : (y : Sought) → r ≡ y → first_of k one (rest s 12) ≡ first_of k one (sought_of s k y)
+module _ (s : List ℕ) (k : Tag) (one : ℕ → List ℕ → List (List ℕ)) (r : std.Option Sought) (x : FirstIs s k r) where
+  found : (y : std.Option Sought) → r ≡ y → first_of k one (rest s 12) ≡ first_of k one (sought_of s k y)
   found y w = first_seek k one (rest s 12) ∙ ap (first_of k one) (x.says ∙ ap (sought_of s k) w)
 
-  pub first-none : r ≡ sought.Nothing → first_of k one (rest s 12) ≡ []
+  pub first-none : r ≡ None → first_of k one (rest s 12) ≡ []
   unfolding first_of
-  first-none w = found sought.Nothing w
+  first-none w = found None w
 
-  first_is : (p : ℕ) (b n : Cursor) → r ≡ sought.Found p b n → first_of k one (rest s 12) ≡ one p (left b s)
+  first_is : (f : Sought) → r ≡ Some f → first_of k one (rest s 12) ≡ one f.at (left f.body s)
   unfolding first_of
-  first_is p b n w = found (sought.Found p b n) w ∙ if_yes (is k k) _ _ (eqb_refl (code k))
+  first_is f w = found (Some f) w ∙ if_yes (is k k) _ _ (eqb_refl (code k))
 
 -- ---- the tables
 
@@ -150,52 +151,52 @@ module _ (s out : List ℕ) where
   unfolding file_rows if
   file_two = refl
 
-  module _ (r : Sought) where
+  module _ (r : std.Option Sought) where
     module _ (x : FirstIs s TEXS r) where
-      pub textures-none : r ≡ sought.Nothing → out ≡ sets out 0 (joined (file_rows 1 s))
+      pub textures-none : r ≡ None → out ≡ sets out 0 (joined (file_rows 1 s))
       textures-none w = none-put (file_rows 1 s) (file-one ∙ first-none s TEXS texture_rows r x w) out
 
-      module _ (p : ℕ) (b n : Cursor) (w : r ≡ sought.Found p b n) where
-        pub textures-body : Inside b (length s)
-        textures-body = let y = x.body p b n w in record { before = y.room; within = y.within }
+      module _ (f : Sought) (w : r ≡ Some f) where
+        pub textures-body : Inside f.body (length s)
+        textures-body = let y = x.body f w in record { before = y.room; within = y.within }
 
-        pub rows_are : file_rows 1 s ≡ map (named_row 0) (named_items 7 b.at (left b s))
+        pub rows_are : file_rows 1 s ≡ map (named_row 0) (named_items 7 f.body.at (left f.body s))
         rows_are =
-            let y = x.body p b n w in
-            file-one ∙ first_is s TEXS texture_rows r x p b n w ∙ textures_are p (left b s) ∙ ap (λ (k : ℕ). map (named_row 0) (named_items 7 k (left b s))) (sym y.head)
+            let y = x.body f w in
+            file-one ∙ first_is s TEXS texture_rows r x f w ∙ textures_are f.at (left f.body s) ∙ ap (λ (k : ℕ). map (named_row 0) (named_items 7 k (left f.body s))) (sym y.head)
 
-        pub textures-room : length (joined (file_rows 1 s)) ≤ length out → length (joined (map (named_row 0) (named_items 7 b.at (left b s)))) ≤ length out
+        pub textures-room : length (joined (file_rows 1 s)) ≤ length out → length (joined (map (named_row 0) (named_items 7 f.body.at (left f.body s)))) ≤ length out
         textures-room h = rw (← rows_are) h
 
-        pub textures-put : (put : List ℕ) → put ≡ sets out 0 (joined (map (named_row 0) (named_items 7 b.at (left b s)))) → put ≡ sets out 0 (joined (file_rows 1 s))
+        pub textures-put : (put : List ℕ) → put ≡ sets out 0 (joined (map (named_row 0) (named_items 7 f.body.at (left f.body s)))) → put ≡ sets out 0 (joined (file_rows 1 s))
         textures-put put e = rw rows_are e
 
     module _ (x : FirstIs s BRUS r) where
-      pub brushes-none : r ≡ sought.Nothing → out ≡ sets out 0 (joined (file_rows 2 s))
+      pub brushes-none : r ≡ None → out ≡ sets out 0 (joined (file_rows 2 s))
       brushes-none w = none-put (file_rows 2 s) (file_two ∙ first-none s BRUS brush_rows r x w) out
 
-      module _ (p : ℕ) (b n : Cursor) (w : r ≡ sought.Found p b n) where
-        pub brushes-body : Inside b (length s)
-        brushes-body = let y = x.body p b n w in record { before = y.room; within = y.within }
+      module _ (g : Sought) (w : r ≡ Some g) where
+        pub brushes-body : Inside g.body (length s)
+        brushes-body = let y = x.body g w in record { before = y.room; within = y.within }
 
-        module _ (h : Headed) (f : FirstWord s b h) where
+        module _ (h : Headed) (f : FirstWord s g.body h) where
           pub brushes-rest : Inside h.rest (length s)
           brushes-rest = f.inside
 
-          pub head-is : file_rows 2 s ≡ brushes_of h.word (p + 12) (drop 4 (left b s))
+          pub head-is : file_rows 2 s ≡ brushes_of h.word (g.at + 12) (drop 4 (left g.body s))
           unfolding brush_rows
-          head-is = file_two ∙ first_is s BRUS brush_rows r x p b n w ∙ ap (λ (k : ℕ). brushes_of k (p + 12) (drop 4 (left b s))) (sym f.number)
+          head-is = file_two ∙ first_is s BRUS brush_rows r x g w ∙ ap (λ (k : ℕ). brushes_of k (g.at + 12) (drop 4 (left g.body s))) (sym f.number)
 
           pub brushes-over : 8 < h.word → out ≡ sets out 0 (joined (file_rows 2 s))
-          brushes-over k = none-put (file_rows 2 s) (head-is ∙ no-brushes h.word (p + 12) (drop 4 (left b s)) k) out
+          brushes-over k = none-put (file_rows 2 s) (head-is ∙ no-brushes h.word (g.at + 12) (drop 4 (left g.body s)) k) out
 
           module _ (k : h.word ≤ 8) (ids : ℕ) (ei : ids ≡ h.word) where
             pub texts_are : file_rows 2 s ≡ map (named_row (8 - ids)) (named_items (7 + ids) h.rest.at (left h.rest s))
             texts_are =
-                let y = x.body p b n w in
-                let q : b.at + 4 ≡ p + 12 = omega (arith, y.head) in
-                head-is ∙ ap (λ (i : ℕ). brushes_of i (p + 12) (drop 4 (left b s))) (sym ei) ∙ brushes_are ids (p + 12) (drop 4 (left b s)) (omega (arith, ei))
-                ∙ ap (λ (i : ℕ). map (named_row (8 - ids)) (named_items (7 + ids) i (drop 4 (left b s)))) (sym q) ∙ ap (map (named_row (8 - ids))) (sym (f.items (7 + ids)))
+                let y = x.body g w in
+                let q : g.body.at + 4 ≡ g.at + 12 = omega (arith, y.head) in
+                head-is ∙ ap (λ (i : ℕ). brushes_of i (g.at + 12) (drop 4 (left g.body s))) (sym ei) ∙ brushes_are ids (g.at + 12) (drop 4 (left g.body s)) (omega (arith, ei))
+                ∙ ap (λ (i : ℕ). map (named_row (8 - ids)) (named_items (7 + ids) i (drop 4 (left g.body s)))) (sym q) ∙ ap (map (named_row (8 - ids))) (sym (f.items (7 + ids)))
 
             pub brushes-ids : 7 + ids ≤ 64
             brushes-ids = omega (arith, ei)

@@ -55,26 +55,22 @@ fn fill_named(file: &[u8], from: Cursor, n: usize, rest: usize, out: &mut [u32])
     let mut c = from;
     let mut base: usize = 0;
     loop {
-        match b3d_chunk_cursor::named_row(file, c, n) {
-            Named::Cut => {
-                return;
-            }
-            Named::Is { length, row, next } => {
-                base = put_row(file, c.at, length, row, n, rest, base, out);
-                c = next;
-            }
-        }
+        let Some(Named { length, row, next }) = b3d_chunk_cursor::named_row(file, c, n) else {
+            return;
+        };
+        base = put_row(file, c.at, length, row, n, rest, base, out);
+        c = next;
     }
 }
 
-// Returns the first chunk of `tag` inside BB3D, from byte 12 of `file` on; no chunk is entered. Returns `Nothing` where there is none or the file is shorter
+// Returns the first chunk of `tag` inside BB3D, from byte 12 of `file` on; no chunk is entered. Returns `None` where there is none or the file is shorter
 // than 12 bytes.
-pub fn first_chunk(file: &[u8], tag: Tag) -> Sought
+pub fn first_chunk(file: &[u8], tag: Tag) -> Option<Sought>
     ensures { FirstIs file.now tag result }
 {
     let end = file.len();
     if end < 12 {
-        return Sought::Nothing;
+        return None;
     }
     b3d_chunk_walk::seek(file, Cursor { at: 12, end }, tag)
 }
@@ -84,7 +80,7 @@ pub fn fill_textures(file: &[u8], out: &mut [u32])
     requires { (length file.now < 0x100000000) × (length (joined (file_rows 1 file.now)) ≤ length out.old) }
     ensures { out.new ≡ stored out.old 0 (joined (file_rows 1 file.now)) }
 {
-    let Sought::Found { body, .. } = first_chunk(file, Tag::TEXS) else {
+    let Some(Sought { body, .. }) = first_chunk(file, Tag::TEXS) else {
         return;
     };
     fill_named(file, body, 7, 0, out);
@@ -96,7 +92,7 @@ pub fn fill_brushes(file: &[u8], out: &mut [u32])
     requires { (length file.now < 0x100000000) × (length (joined (file_rows 2 file.now)) ≤ length out.old) }
     ensures { out.new ≡ stored out.old 0 (joined (file_rows 2 file.now)) }
 {
-    let Sought::Found { body, .. } = first_chunk(file, Tag::BRUS) else {
+    let Some(Sought { body, .. }) = first_chunk(file, Tag::BRUS) else {
         return;
     };
     let head = b3d_chunk_walk::first_word(file, body);

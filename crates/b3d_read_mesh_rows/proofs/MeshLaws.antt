@@ -1,4 +1,7 @@
 -- What stands in a MESH: laws for `count_sets`, `find_shape` and `store_mesh`.
+use Rattle.std.specs.Prelude.{Some, None}
+use Rattle.std.specs.Prelude as std
+use Rattle.b3d_chunk_walk.specs.declared.Sought.{Sought}
 use mathlib.Core.Path.{◌≡◌, refl, ap, sym, ◌∙◌}
 use Prim.Native.Nat.{ℕ, ◌+◌, ◌-◌, ◌*◌, ◌/◌, ◌<◌, ◌≤◌}
 use native.Mathlib.Nat.{div-le_self}
@@ -20,8 +23,6 @@ use Rattle.b3d_spec_plain_rows.specs.Plain.{whole, plain_vertices, shape_of, set
 use Rattle.b3d_chunk_walk.specs.Walks.{BodyAt}
 use Rattle.b3d_chunk_walk.specs.Seeks.{ahead, Seeks, FirstWord, ThreeWords}
 use Rattle.b3d_chunk_walk.specs.declared.Headed.{Headed}
-use Rattle.b3d_chunk_walk.specs.declared.Sought.{Sought}
-use Rattle.b3d_chunk_walk.specs.declared.Sought.TheVariants as sought
 use Rattle.b3d_chunk_walk.proofs.SeekLaws.{sought_none, sought_is, sought_among, sought_body, sought_next, sought_less}
 use Rattle.b3d_chunk_walk.proofs.MeshLaws.{mesh-inside, mesh-inner, no-set, one_set}
 use Rattle.b3d_chunk_walk.proofs.FirstWordLaws.{word-inside}
@@ -50,44 +51,44 @@ module _ (s : List ℕ) (c₀ : Cursor) where
     pub count_fits : length s * 1 < 0x8000000000000000 → Fits w64 (n + 1)
     count_fits small = record { fits = omega (arith, v.few, v.inside.before, v.inside.within) }
 
-    module _ (r : Sought) (x : Seeks s c TRIS r) where
-      module _ (w : r ≡ sought.Nothing) where
+    module _ (r : std.Option Sought) (x : Seeks s c TRIS r) where
+      module _ (w : r ≡ None) where
         pub count_done : n ≡ length (sets_of (ahead s c₀))
         count_done = omega (arith, v.total, ap length (no-set s c r x w))
 
         pub count_few : n ≤ c₀.end - c₀.at
         count_few = omega (arith, v.few, v.same_end, v.inside.before)
 
-      module _ (q : ℕ) (d m : Cursor) (w : r ≡ sought.Found q d m) where
-        pub count_less : m.end - m.at < c.end - c.at
-        count_less = sought_less s c TRIS r x q d m w
+      module _ (g : Sought) (w : r ≡ Some g) where
+        pub count_less : g.next.end - g.next.at < c.end - c.at
+        count_less = sought_less s c TRIS r x g w
 
-        pub count_more : CountLeft s c₀ m (n + 1)
+        pub count_more : CountLeft s c₀ g.next (n + 1)
         count_more =
-            let f = sought_among s c TRIS r x q d m w in
+            let f = sought_among s c TRIS r x g w in
             record {
-              inside = sought_next s c TRIS r x q d m w (length s) v.inside;
+              inside = sought_next s c TRIS r x g w (length s) v.inside;
               same_end = f.same ∙ v.same_end;
               few = omega (arith, v.few);
-              total = omega (arith, v.total, ap length (one_set s c r x q d m w));
+              total = omega (arith, v.total, ap length (one_set s c r x g w));
             }
 
 pub ruleset count_laws = (count_start, count_inside, count_fits, count_done, count_few, count_less, count_more)
 
 -- ---- the first VRTS
 
-module _ (s : List ℕ) (c : Cursor) (i : Inside c (length s)) (r : Sought) (x : Seeks s c VRTS r) where
-  pub shape_none : r ≡ sought.Nothing → (v : Vertices) → v ≡ record { flags = 0; sets = 0; size = 0; count = 0 } → ShapeFound s c v
+module _ (s : List ℕ) (c : Cursor) (i : Inside c (length s)) (r : std.Option Sought) (x : Seeks s c VRTS r) where
+  pub shape_none : r ≡ None → (v : Vertices) → v ≡ record { flags = 0; sets = 0; size = 0; count = 0 } → ShapeFound s c v
   unfolding shape_of
   shape_none w v e =
       let z = shape_seek (ahead s c) ∙ ap shape_of (sought_none s c VRTS r x w) in
       rw e (record { flags_are = ap (λ y. y.flags) z; sets_are = ap (λ y. y.sets) z; size_are = ap (λ y. y.size) z; count_is = ap (λ y. length y.items) z; few = omega arith })
 
-  module _ (q : ℕ) (d m : Cursor) (w : r ≡ sought.Found q d m) where
-    pub shape_body : Inside d (length s)
-    shape_body = sought_body s c VRTS r x q d m w (length s) i
+  module _ (g : Sought) (w : r ≡ Some g) where
+    pub shape_body : Inside g.body (length s)
+    shape_body = sought_body s c VRTS r x g w (length s) i
 
-    module _ (h : Three) (y : ThreeWords s d h) where
+    module _ (h : Three) (y : ThreeWords s g.body h) where
       pub shape_before : h.rest.at ≤ h.rest.end
       shape_before = y.inside.before
 
@@ -95,18 +96,18 @@ module _ (s : List ℕ) (c : Cursor) (i : Inside c (length s)) (r : Sought) (x :
           → (v : Vertices) → v ≡ record { flags = h.first; sets = h.second; size = h.third; count = n } → ShapeFound s c v
       unfolding shape_of plain_vertices whole if
       shape_one n en v e =
-          let f = sought_among s c VRTS r x q d m w in
-          let z = shape_seek (ahead s c) ∙ ap shape_of (sought_is s c VRTS r x q d m w) in
+          let f = sought_among s c VRTS r x g w in
+          let z = shape_seek (ahead s c) ∙ ap shape_of (sought_is s c VRTS r x g w) in
           let l = left-length s h.rest y.inside in
-          let k = length-items-of (length (drop 12 (left d s)) / (4 * ones (vertex_mask (get_or (words_of 3 (left d s)) 0 0) (get_or (words_of 3 (left d s)) 1 0) (get_or (words_of 3 (left d s)) 2 0)))) (ones (vertex_mask (get_or (words_of 3 (left d s)) 0 0) (get_or (words_of 3 (left d s)) 1 0) (get_or (words_of 3 (left d s)) 2 0))) (drop 12 (left d s)) in
-          let j : length (drop 12 (left d s)) / (4 * ones (vertex_mask (get_or (words_of 3 (left d s)) 0 0) (get_or (words_of 3 (left d s)) 1 0) (get_or (words_of 3 (left d s)) 2 0))) ≡ n = rw (y.first_is, y.second_is, y.third_is, y.bytes_are, l) (sym en) in
+          let k = length-items-of (length (drop 12 (left g.body s)) / (4 * ones (vertex_mask (get_or (words_of 3 (left g.body s)) 0 0) (get_or (words_of 3 (left g.body s)) 1 0) (get_or (words_of 3 (left g.body s)) 2 0)))) (ones (vertex_mask (get_or (words_of 3 (left g.body s)) 0 0) (get_or (words_of 3 (left g.body s)) 1 0) (get_or (words_of 3 (left g.body s)) 2 0))) (drop 12 (left g.body s)) in
+          let j : length (drop 12 (left g.body s)) / (4 * ones (vertex_mask (get_or (words_of 3 (left g.body s)) 0 0) (get_or (words_of 3 (left g.body s)) 1 0) (get_or (words_of 3 (left g.body s)) 2 0))) ≡ n = rw (y.first_is, y.second_is, y.third_is, y.bytes_are, l) (sym en) in
           rw e
           (record {
             flags_are = ap (λ a. a.flags) z ∙ y.first_is;
             sets_are = ap (λ a. a.sets) z ∙ y.second_is;
             size_are = ap (λ a. a.size) z ∙ y.third_is;
             count_is = ap (λ a. length a.items) z ∙ k ∙ j;
-            few = omega (arith, en, l, ap length y.bytes_are, length-drop 12 (left d s), left-most s d, div-le_self (h.rest.end - h.rest.at) (4 * ones (vertex_mask h.first h.second h.third)));
+            few = omega (arith, en, l, ap length y.bytes_are, length-drop 12 (left g.body s), left-most s g.body, div-le_self (h.rest.end - h.rest.at) (4 * ones (vertex_mask h.first h.second h.third)));
           })
 
 pub ruleset shape_laws = (shape_none, shape_body, shape_before, shape_one)

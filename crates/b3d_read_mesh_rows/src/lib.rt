@@ -22,10 +22,10 @@ pub fn store_vertices(file: &[u8], p: usize, body: Cursor, base: usize, out: &mu
         × (out.new ≡ stored out.old base (joined (vertices_in p (left body file.now)))) }
 {
     let head = b3d_chunk_walk::first_word(file, body);
-    match b3d_chunk_walk::seek(file, head.rest, Tag::VRTS) {
-        Sought::Nothing => base,
-        Sought::Found { body: b, .. } => b3d_read_item_rows::store_vertex_rows(file, b, base, out),
-    }
+    let Some(Sought { body: b, .. }) = b3d_chunk_walk::seek(file, head.rest, Tag::VRTS) else {
+        return base;
+    };
+    b3d_read_item_rows::store_vertex_rows(file, b, base, out)
 }
 
 // Returns how many TRIS stand from the cursor `from` on.
@@ -36,7 +36,7 @@ fn count_sets(file: &[u8], from: Cursor) -> usize
     let mut c = from;
     let mut n: usize = 0;
     loop {
-        let Sought::Found { next, .. } = b3d_chunk_walk::seek(file, c, Tag::TRIS) else {
+        let Some(Sought { next, .. }) = b3d_chunk_walk::seek(file, c, Tag::TRIS) else {
             return n;
         };
         n += 1;
@@ -58,23 +58,21 @@ fn find_shape(file: &[u8], from: Cursor) -> Vertices
     requires { Inside from (length file.now) }
     ensures { ShapeFound file.now from result }
 {
-    match b3d_chunk_walk::seek(file, from, Tag::VRTS) {
-        Sought::Nothing => Vertices {
+    let Some(Sought { body, .. }) = b3d_chunk_walk::seek(file, from, Tag::VRTS) else {
+        return Vertices {
             flags: 0,
             sets: 0,
             size: 0,
             count: 0,
-        },
-        Sought::Found { body, .. } => {
-            let h = b3d_chunk_walk::three_words(file, body);
-            let count = b3d_read_item_rows::shape_count(h);
-            Vertices {
-                flags: h.first,
-                sets: h.second,
-                size: h.third,
-                count,
-            }
-        }
+        };
+    };
+    let h = b3d_chunk_walk::three_words(file, body);
+    let count = b3d_read_item_rows::shape_count(h);
+    Vertices {
+        flags: h.first,
+        sets: h.second,
+        size: h.third,
+        count,
     }
 }
 

@@ -1,4 +1,7 @@
 -- Tables 4 to 7 have rows of each MESH: laws of `put_one`, and of the loop of `store_meshes`.
+use Rattle.std.specs.Prelude.{Some, None}
+use Rattle.std.specs.Prelude as std
+use Rattle.b3d_chunk_walk.specs.declared.FlatChunk.{FlatChunk}
 use mathlib.Core.Path.{◌≡◌, refl, ap, sym, subst, ◌∙◌}
 use Prim.Native.Nat.{ℕ, ◌+◌, ◌-◌, ◌*◌, ◌<◌, ◌≤◌}
 use native.Mathlib.Omega.{arith}
@@ -21,8 +24,6 @@ use Rattle.b3d_spec.specs.Tags.{is}
 use Rattle.b3d_spec_plain_rows.specs.Plain.{plain_mesh, mesh_of}
 use Rattle.b3d_spec_plain_rows.specs.Rows.{counted, file_rows}
 use Rattle.b3d_chunk_walk.specs.Walks.{BodyAt, ChunkIs, Steps}
-use Rattle.b3d_chunk_walk.specs.declared.Flat.{Flat}
-use Rattle.b3d_chunk_walk.specs.declared.Flat.TheVariants as run
 use Rattle.b3d_chunk_walk.proofs.CountLaws.{tag_same, counted-nodes, counted-meshes, counted-vertices, counted-sets, counted-triangles}
 use Rattle.b3d_chunk_walk.proofs.TableLaws.{TableLeft, Any, any-counts, table_start, table_done, table_chunk, table_other, table_room, table_own}
 use Rattle.b3d_read_mesh_rows.specs.Meshes.{vertices_in, mesh_cells, MeshPut}
@@ -191,8 +192,8 @@ module _ (s a4 a5 a6 a7 : List ℕ) where
     pub meshes_nodes : length s < 0x100000000 → Fits w64 (m.nodes + 1)
     meshes_nodes small = record { fits = omega (arith, v.fit.nodes, v.left4.inside) }
 
-    module _ (r : Flat) (x : Steps s at r) where
-      module _ (w : r ≡ run.End) where
+    module _ (r : std.Option FlatChunk) (x : Steps s at r) where
+      module _ (w : r ≡ None) where
         pub meshes_done4 : o4 ≡ stored a4 0 (joined (file_rows 4 s))
         meshes_done4 = table_done meshes s a4 (Counted m) o4 at m.to4 v.left4 r x w
 
@@ -205,102 +206,102 @@ module _ (s a4 a5 a6 a7 : List ℕ) where
         pub meshes_done7 : o7 ≡ stored a7 0 (joined (file_rows 7 s))
         meshes_done7 = table_done triangles s a7 Any o7 at m.to7 v.left7 r x w
 
-      module _ (t : Tag) (p : ℕ) (b : Cursor) (q : ℕ) (w : r ≡ run.Chunk t p b q) where
-        it : ChunkIs s at t p b q
-        it = table_chunk meshes s a4 (Counted m) o4 at m.to4 v.left4 r x t p b q w
+      module _ (d : FlatChunk) (w : r ≡ Some d) where
+        it : ChunkIs s at d.tag d.at d.body d.next
+        it = table_chunk meshes s a4 (Counted m) o4 at m.to4 v.left4 r x d w
 
-        pub meshes_less : length s - q < length s - at
+        pub meshes_less : length s - d.next < length s - at
         meshes_less = omega (arith, it.more, it.to)
 
-        pub meshes_body : BodyAt s p b
+        pub meshes_body : BodyAt s d.at d.body
         meshes_body = it.body
 
         fit_later : (j : ℕ) → at ≤ j → MeshMarksFit j m
         fit_later j le = marks-later m at j le v.fit
 
-        pub meshes_fit : MeshMarksFit p m
-        meshes_fit = fit_later p it.from
+        pub meshes_fit : MeshMarksFit d.at m
+        meshes_fit = fit_later d.at it.from
 
-        module _ (ok : Bool) (eo : ok ≡ is t MESH) where
+        module _ (ok : Bool) (eo : ok ≡ is d.tag MESH) where
           module _ (z : ok ≡ true) where
-            is_mesh : T (is t MESH)
+            is_mesh : T (is d.tag MESH)
             is_mesh = subst T (sym z ∙ eo) tt
 
-            not_node : T (not (is t NODE))
-            not_node = subst (λ (y : Tag). T (not (is y NODE))) (sym (tag_same t MESH is_mesh)) tt
+            not_node : T (not (is d.tag NODE))
+            not_node = subst (λ (y : Tag). T (not (is y NODE))) (sym (tag_same d.tag MESH is_mesh)) tt
 
-            pub meshes_room : MeshRoom s p b m (length o4) (length o5) (length o6) (length o7)
+            pub meshes_room : MeshRoom s d.at d.body m (length o4) (length o5) (length o6) (length o7)
             unfolding joined mesh_cells
             meshes_room = record {
-              room4 = table_room meshes s a4 (Counted m) o4 at m.to4 v.left4 r x t p b q w ok eo z;
-              room5 = table_room vertices s a5 Any o5 at m.to5 v.left5 r x t p b q w ok eo z;
-              room6 = rw (v.left6.known.meshes, v.left6.known.triangles) at (table_room sets s a6 (Counted m) o6 at m.to6 v.left6 r x t p b q w ok eo z);
-              room7 = table_room triangles s a7 Any o7 at m.to7 v.left7 r x t p b q w ok eo z;
+              room4 = table_room meshes s a4 (Counted m) o4 at m.to4 v.left4 r x d w ok eo z;
+              room5 = table_room vertices s a5 Any o5 at m.to5 v.left5 r x d w ok eo z;
+              room6 = rw (v.left6.known.meshes, v.left6.known.triangles) at (table_room sets s a6 (Counted m) o6 at m.to6 v.left6 r x d w ok eo z);
+              room7 = table_room triangles s a7 Any o7 at m.to7 v.left7 r x d w ok eo z;
             }
 
-            module _ (u4 u5 u6 u7 : List ℕ) (g : MeshMarks) (h : MeshStored s p b m o4 o5 o6 o7 u4 u5 u6 u7 g) where
-              triangles_more : length (triangle_rows (plain_mesh p (left b s)).triangle_sets) ≡ triangle_count p (left b s)
+            module _ (u4 u5 u6 u7 : List ℕ) (g : MeshMarks) (h : MeshStored s d.at d.body m o4 o5 o6 o7 u4 u5 u6 u7 g) where
+              triangles_more : length (triangle_rows (plain_mesh d.at (left d.body s)).triangle_sets) ≡ triangle_count d.at (left d.body s)
               unfolding plain_mesh mesh_of triangle_count
               triangles_more = refl
 
-              counted_on : (n : Counts) → Counted m n → Counted g (counted t p (left b s) n)
+              counted_on : (n : Counts) → Counted m n → Counted g (counted d.tag d.at (left d.body s) n)
               counted_on n k = record {
-                nodes = counted-nodes p (left b s) n t ∙ if_no (is t NODE) _ _ not_node ∙ k.nodes ∙ sym h.nodes;
-                meshes = counted-meshes p (left b s) n t ∙ if_yes (is t MESH) _ _ is_mesh ∙ omega (arith, k.meshes, h.meshes);
-                vertices = counted-vertices p (left b s) n t ∙ if_yes (is t MESH) _ _ is_mesh ∙ omega (arith, k.vertices, h.vertices);
-                sets = counted-sets p (left b s) n t ∙ if_yes (is t MESH) _ _ is_mesh ∙ omega (arith, k.sets, h.sets);
-                triangles = counted-triangles p (left b s) n t ∙ if_yes (is t MESH) _ _ is_mesh ∙ omega (arith, k.triangles, h.triangles, triangles_more);
+                nodes = counted-nodes d.at (left d.body s) n d.tag ∙ if_no (is d.tag NODE) _ _ not_node ∙ k.nodes ∙ sym h.nodes;
+                meshes = counted-meshes d.at (left d.body s) n d.tag ∙ if_yes (is d.tag MESH) _ _ is_mesh ∙ omega (arith, k.meshes, h.meshes);
+                vertices = counted-vertices d.at (left d.body s) n d.tag ∙ if_yes (is d.tag MESH) _ _ is_mesh ∙ omega (arith, k.vertices, h.vertices);
+                sets = counted-sets d.at (left d.body s) n d.tag ∙ if_yes (is d.tag MESH) _ _ is_mesh ∙ omega (arith, k.sets, h.sets);
+                triangles = counted-triangles d.at (left d.body s) n d.tag ∙ if_yes (is d.tag MESH) _ _ is_mesh ∙ omega (arith, k.triangles, h.triangles, triangles_more);
               }
 
-              fit_on : MeshMarksFit q g
-              fit_on = marks-later g b.end q (it.past not_node) h.fit
+              fit_on : MeshMarksFit d.next g
+              fit_on = marks-later g d.body.end d.next (it.past not_node) h.fit
 
-              pub meshes_put : MeshesLeft s a4 a5 a6 a7 u4 u5 u6 u7 q g
+              pub meshes_put : MeshesLeft s a4 a5 a6 a7 u4 u5 u6 u7 d.next g
               unfolding joined mesh_cells
               meshes_put = record {
                 fit = fit_on;
-                left4 = table_own meshes s a4 (Counted m) o4 at m.to4 v.left4 r x t p b q w ok eo z (Counted g) (counted_on v.left4.counts v.left4.known) u4 g.to4 h.next4
+                left4 = table_own meshes s a4 (Counted m) o4 at m.to4 v.left4 r x d w ok eo z (Counted g) (counted_on v.left4.counts v.left4.known) u4 g.to4 h.next4
                     (h.rows4 ∙ rw (v.left4.known.nodes, v.left4.known.vertices, v.left4.known.sets));
-                left5 = table_own vertices s a5 Any o5 at m.to5 v.left5 r x t p b q w ok eo z Any (any-counts _) u5 g.to5 h.next5 h.rows5;
-                left6 = table_own sets s a6 (Counted m) o6 at m.to6 v.left6 r x t p b q w ok eo z (Counted g) (counted_on v.left6.counts v.left6.known) u6 g.to6
+                left5 = table_own vertices s a5 Any o5 at m.to5 v.left5 r x d w ok eo z Any (any-counts _) u5 g.to5 h.next5 h.rows5;
+                left6 = table_own sets s a6 (Counted m) o6 at m.to6 v.left6 r x d w ok eo z (Counted g) (counted_on v.left6.counts v.left6.known) u6 g.to6
                     (rw (v.left6.known.meshes, v.left6.known.triangles) h.next6) (rw (v.left6.known.meshes, v.left6.known.triangles) h.rows6);
-                left7 = table_own triangles s a7 Any o7 at m.to7 v.left7 r x t p b q w ok eo z Any (any-counts _) u7 g.to7 h.next7 h.rows7;
+                left7 = table_own triangles s a7 Any o7 at m.to7 v.left7 r x d w ok eo z Any (any-counts _) u7 g.to7 h.next7 h.rows7;
               }
 
           module _ (z : ok ≡ false) where
-            not_mesh : T (not (is t MESH))
+            not_mesh : T (not (is d.tag MESH))
             not_mesh = subst (λ (y : Bool). T (not y)) (sym z ∙ eo) tt
 
             -- nothing changes but the number of nodes
-            passed : (g : MeshMarks) → ((n : Counts) → Counted m n → Counted g (counted t p (left b s) n)) → MeshMarksFit q g → m.to4 ≡ g.to4 → m.to5 ≡ g.to5 → m.to6 ≡ g.to6 → m.to7 ≡ g.to7
-                → MeshesLeft s a4 a5 a6 a7 o4 o5 o6 o7 q g
+            passed : (g : MeshMarks) → ((n : Counts) → Counted m n → Counted g (counted d.tag d.at (left d.body s) n)) → MeshMarksFit d.next g → m.to4 ≡ g.to4 → m.to5 ≡ g.to5 → m.to6 ≡ g.to6 → m.to7 ≡ g.to7
+                → MeshesLeft s a4 a5 a6 a7 o4 o5 o6 o7 d.next g
             passed g on fits e4 e5 e6 e7 = record {
               fit = fits;
-              left4 = rw e4 at (table_other meshes s a4 (Counted m) o4 at m.to4 v.left4 r x t p b q w ok eo (Counted g) (on v.left4.counts v.left4.known) z);
-              left5 = rw e5 at (table_other vertices s a5 Any o5 at m.to5 v.left5 r x t p b q w ok eo Any (any-counts _) z);
-              left6 = rw e6 at (table_other sets s a6 (Counted m) o6 at m.to6 v.left6 r x t p b q w ok eo (Counted g) (on v.left6.counts v.left6.known) z);
-              left7 = rw e7 at (table_other triangles s a7 Any o7 at m.to7 v.left7 r x t p b q w ok eo Any (any-counts _) z);
+              left4 = rw e4 at (table_other meshes s a4 (Counted m) o4 at m.to4 v.left4 r x d w ok eo (Counted g) (on v.left4.counts v.left4.known) z);
+              left5 = rw e5 at (table_other vertices s a5 Any o5 at m.to5 v.left5 r x d w ok eo Any (any-counts _) z);
+              left6 = rw e6 at (table_other sets s a6 (Counted m) o6 at m.to6 v.left6 r x d w ok eo (Counted g) (on v.left6.counts v.left6.known) z);
+              left7 = rw e7 at (table_other triangles s a7 Any o7 at m.to7 v.left7 r x d w ok eo Any (any-counts _) z);
             }
 
-            same : (n : Counts) (k : ℕ) → (counted t p (left b s) n).nodes ≡ k → (g : MeshMarks) → k ≡ g.nodes → m.meshes ≡ g.meshes → m.vertices ≡ g.vertices → m.sets ≡ g.sets → m.triangles ≡ g.triangles
-                → Counted m n → Counted g (counted t p (left b s) n)
+            same : (n : Counts) (k : ℕ) → (counted d.tag d.at (left d.body s) n).nodes ≡ k → (g : MeshMarks) → k ≡ g.nodes → m.meshes ≡ g.meshes → m.vertices ≡ g.vertices → m.sets ≡ g.sets → m.triangles ≡ g.triangles
+                → Counted m n → Counted g (counted d.tag d.at (left d.body s) n)
             same n k ek g e₁ e₂ e₃ e₄ e₅ c = record {
               nodes = ek ∙ e₁;
-              meshes = counted-meshes p (left b s) n t ∙ if_no (is t MESH) _ _ not_mesh ∙ c.meshes ∙ e₂;
-              vertices = counted-vertices p (left b s) n t ∙ if_no (is t MESH) _ _ not_mesh ∙ c.vertices ∙ e₃;
-              sets = counted-sets p (left b s) n t ∙ if_no (is t MESH) _ _ not_mesh ∙ c.sets ∙ e₄;
-              triangles = counted-triangles p (left b s) n t ∙ if_no (is t MESH) _ _ not_mesh ∙ c.triangles ∙ e₅;
+              meshes = counted-meshes d.at (left d.body s) n d.tag ∙ if_no (is d.tag MESH) _ _ not_mesh ∙ c.meshes ∙ e₂;
+              vertices = counted-vertices d.at (left d.body s) n d.tag ∙ if_no (is d.tag MESH) _ _ not_mesh ∙ c.vertices ∙ e₃;
+              sets = counted-sets d.at (left d.body s) n d.tag ∙ if_no (is d.tag MESH) _ _ not_mesh ∙ c.sets ∙ e₄;
+              triangles = counted-triangles d.at (left d.body s) n d.tag ∙ if_no (is d.tag MESH) _ _ not_mesh ∙ c.triangles ∙ e₅;
             }
 
-            module _ (node : Bool) (en : node ≡ is t NODE) where
+            module _ (node : Bool) (en : node ≡ is d.tag NODE) where
               pub meshes_node : node ≡ true → (g : MeshMarks)
                   → g ≡ record { nodes = m.nodes + 1; meshes = m.meshes; vertices = m.vertices; sets = m.sets; triangles = m.triangles; to4 = m.to4; to5 = m.to5; to6 = m.to6; to7 = m.to7 }
-                  → MeshesLeft s a4 a5 a6 a7 o4 o5 o6 o7 q g
+                  → MeshesLeft s a4 a5 a6 a7 o4 o5 o6 o7 d.next g
               meshes_node u g e =
-                  let f = fit_later q (omega (arith, it.more)) in
+                  let f = fit_later d.next (omega (arith, it.more)) in
                   rw e
                   (passed _
-                  (λ n c. same n (m.nodes + 1) (counted-nodes p (left b s) n t ∙ if_yes (is t NODE) _ _ (subst T (sym u ∙ en) tt) ∙ ap (λ (k : ℕ). k + 1) c.nodes) _ refl refl refl refl refl c)
+                  (λ n c. same n (m.nodes + 1) (counted-nodes d.at (left d.body s) n d.tag ∙ if_yes (is d.tag NODE) _ _ (subst T (sym u ∙ en) tt) ∙ ap (λ (k : ℕ). k + 1) c.nodes) _ refl refl refl refl refl c)
                   (record {
                     nodes = omega (arith, v.fit.nodes, it.more);
                     meshes = f.meshes;
@@ -311,10 +312,10 @@ module _ (s a4 a5 a6 a7 : List ℕ) where
                     words6 = f.words6;
                   }) refl refl refl refl)
 
-              pub meshes_other : node ≡ false → MeshesLeft s a4 a5 a6 a7 o4 o5 o6 o7 q m
+              pub meshes_other : node ≡ false → MeshesLeft s a4 a5 a6 a7 o4 o5 o6 o7 d.next m
               meshes_other u =
                   passed m
-                  (λ n c. same n m.nodes (counted-nodes p (left b s) n t ∙ if_no (is t NODE) _ _ (subst (λ (y : Bool). T (not y)) (sym u ∙ en) tt) ∙ c.nodes) m refl refl refl refl refl c)
-                  (fit_later q (omega (arith, it.more))) refl refl refl refl
+                  (λ n c. same n m.nodes (counted-nodes d.at (left d.body s) n d.tag ∙ if_no (is d.tag NODE) _ _ (subst (λ (y : Bool). T (not y)) (sym u ∙ en) tt) ∙ c.nodes) m refl refl refl refl refl c)
+                  (fit_later d.next (omega (arith, it.more))) refl refl refl refl
 
 pub ruleset meshes_laws = (meshes_start, meshes_inside, meshes_long4, meshes_long5, meshes_long6, meshes_long7, meshes_nodes, meshes_done4, meshes_done5, meshes_done6, meshes_done7, meshes_less, meshes_body, meshes_fit, meshes_room, meshes_put, meshes_node, meshes_other)

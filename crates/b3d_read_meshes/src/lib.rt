@@ -8,7 +8,6 @@ ghost use Rattle.b3d_spec_plain_rows.specs.Rows.{file_rows};
 ghost use Rattle.b3d_chunk_walk.specs.Walks.{BodyAt};
 ghost use Rattle.b3d_read_meshes.specs.Marks.{MeshMarksFit, MeshRoom, MeshStored};
 
-use b3d_chunk_walk::Flat;
 use b3d_spec::{MESH_WIDTH, Tag};
 use wire::Cursor;
 
@@ -90,14 +89,14 @@ pub fn store_meshes(file: &[u8], t4: &mut [u32], t5: &mut [u32], t6: &mut [u32],
         to7: 0,
     };
     loop {
-        let Flat::Chunk(tag, p, body, next) = b3d_chunk_walk::flat_next(file, at) else {
+        let Some(chunk) = b3d_chunk_walk::flat_next(file, at) else {
             return;
         };
-        if b3d_chunk_cursor::same(tag, Tag::MESH) {
-            m = put_one(file, p, body, m, t4, t5, t6, t7);
-        } else if b3d_chunk_cursor::same(tag, Tag::NODE) {
+        if b3d_chunk_cursor::same(chunk.tag, Tag::MESH) {
+            m = put_one(file, chunk.at, chunk.body, m, t4, t5, t6, t7);
+        } else if b3d_chunk_cursor::same(chunk.tag, Tag::NODE) {
             m.nodes = m.nodes + 1;
         }
-        at = next;
+        at = chunk.next;
     }
 }

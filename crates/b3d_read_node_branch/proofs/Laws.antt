@@ -1,4 +1,7 @@
 -- The loop over the NODEs before a place.
+use Rattle.std.specs.Prelude.{Some, None}
+use Rattle.std.specs.Prelude as std
+use Rattle.b3d_chunk_walk.specs.declared.FlatChunk.{FlatChunk}
 use mathlib.Core.Path.{◌≡◌, ap, sym, subst, ◌∙◌}
 use Prim.Native.Nat.{ℕ, suc, ◌+◌, ◌-◌, ◌<◌, ◌≤◌}
 use native.Mathlib.Omega.{arith}
@@ -17,8 +20,6 @@ use Rattle.b3d_spec.specs.Tags.{is}
 use Rattle.b3d_spec_plain_rows.specs.Flat.{flat_at}
 use Rattle.b3d_spec_plain_rows.specs.Rows.{nodes_before}
 use Rattle.b3d_chunk_walk.specs.Walks.{ChunkIs, Ends, FlatIs, Steps}
-use Rattle.b3d_chunk_walk.specs.declared.Flat.{Flat}
-use Rattle.b3d_chunk_walk.specs.declared.Flat.TheVariants as flat
 
 -- from `at` on come those that are left after so many
 pub record BeforeLeft (s : List ℕ) (end from at count : ℕ) : Type 0 where
@@ -34,40 +35,40 @@ module _ (s : List ℕ) (end from : ℕ) where
     pub before_inside : at ≤ length s
     before_inside = v.inside
 
-    module _ (r : Flat) (x : Steps s at r) where
-      pub before_done : r ≡ flat.End → count ≡ nodes_before end (flat_at s from)
+    module _ (r : std.Option FlatChunk) (x : Steps s at r) where
+      pub before_done : r ≡ None → count ≡ nodes_before end (flat_at s from)
       before_done w = let e : Ends (flat_at s at) = subst (FlatIs s at) w x.is in omega (arith, v.same, e.before end)
 
-      module _ (t : Tag) (p : ℕ) (b : Cursor) (q : ℕ) (w : r ≡ flat.Chunk t p b q) where
-        step : ChunkIs s at t p b q
+      module _ (f : FlatChunk) (w : r ≡ Some f) where
+        step : ChunkIs s at f.tag f.at f.body f.next
         step = subst (FlatIs s at) w x.is
 
-        pub before_less : length s - q < length s - at
+        pub before_less : length s - f.next < length s - at
         before_less = omega (arith, step.more, step.to)
 
         pub before_more : length s < 0x100000000 → Fits w32 (count + 1)
         before_more small = record { fits = omega (arith, v.few, step.more, step.to) }
 
-        next : nodes_before end (flat_at s at) ≡ if (is t NODE) (if (leb end p) 0 (suc (nodes_before end (flat_at s q)))) (nodes_before end (flat_at s q))
+        next : nodes_before end (flat_at s at) ≡ if (is f.tag NODE) (if (leb end f.at) 0 (suc (nodes_before end (flat_at s f.next)))) (nodes_before end (flat_at s f.next))
         unfolding nodes_before
         next = ap (nodes_before end) step.run
 
-        module _ (ok : Bool) (eo : ok ≡ is t NODE) where
-          pub before_other : ok ≡ false → BeforeLeft s end from q count
+        module _ (ok : Bool) (eo : ok ≡ is f.tag NODE) where
+          pub before_other : ok ≡ false → BeforeLeft s end from f.next count
           before_other z =
-              let e = next ∙ if_no (is t NODE) _ _ (subst (λ (y : Bool). T (not y)) (sym z ∙ eo) tt) in
+              let e = next ∙ if_no (is f.tag NODE) _ _ (subst (λ (y : Bool). T (not y)) (sym z ∙ eo) tt) in
               record { inside = step.to; few = omega (arith, v.few, step.more); same = omega (arith, v.same, e) }
 
           module _ (z : ok ≡ true) where
-            node : nodes_before end (flat_at s at) ≡ if (leb end p) 0 (suc (nodes_before end (flat_at s q)))
-            node = next ∙ if_yes (is t NODE) _ _ (subst T (sym z ∙ eo) tt)
+            node : nodes_before end (flat_at s at) ≡ if (leb end f.at) 0 (suc (nodes_before end (flat_at s f.next)))
+            node = next ∙ if_yes (is f.tag NODE) _ _ (subst T (sym z ∙ eo) tt)
 
-            pub before_stop : end ≤ p → count ≡ nodes_before end (flat_at s from)
-            before_stop h = let e = node ∙ if_yes (leb end p) _ _ (le→leb end p h) in omega (arith, v.same, e)
+            pub before_stop : end ≤ f.at → count ≡ nodes_before end (flat_at s from)
+            before_stop h = let e = node ∙ if_yes (leb end f.at) _ _ (le→leb end f.at h) in omega (arith, v.same, e)
 
-            pub before_one : p < end → BeforeLeft s end from q (count + 1)
+            pub before_one : f.at < end → BeforeLeft s end from f.next (count + 1)
             before_one h =
-                let e = node ∙ by_test (leb end p) (λ u. absurd (omega (arith, leb→le end p u))) (λ u. if_no (leb end p) 0 (suc (nodes_before end (flat_at s q))) u) in
+                let e = node ∙ by_test (leb end f.at) (λ u. absurd (omega (arith, leb→le end f.at u))) (λ u. if_no (leb end f.at) 0 (suc (nodes_before end (flat_at s f.next))) u) in
                 record { inside = step.to; few = omega (arith, v.few, step.more); same = omega (arith, v.same, e) }
 
 pub ruleset before_laws = (before_start, before_inside, before_done, before_less, before_more, before_other, before_stop, before_one)

@@ -5,7 +5,6 @@ ghost use Rattle.std.specs.Prelude.{◌≡◌, ◌<◌, ◌≤◌, length};
 ghost use Rattle.b3d_spec_plain_rows.specs.Flat.{flat_at};
 ghost use Rattle.b3d_spec_plain_rows.specs.Rows.{nodes_before};
 
-use b3d_chunk_walk::Flat;
 use b3d_spec::Tag;
 
 // Returns how many nodes are below the node whose own chunks begin at `from` and which ends at `end`: the NODEs from `from` on that begin before `end`.
@@ -16,15 +15,15 @@ pub fn nodes_before(file: &[u8], from: usize, end: usize) -> u32
     let mut at = from;
     let mut count: u32 = 0;
     loop {
-        let Flat::Chunk(tag, p, _, next) = b3d_chunk_walk::flat_next(file, at) else {
+        let Some(chunk) = b3d_chunk_walk::flat_next(file, at) else {
             return count;
         };
-        if b3d_chunk_cursor::same(tag, Tag::NODE) {
-            if end <= p {
+        if b3d_chunk_cursor::same(chunk.tag, Tag::NODE) {
+            if end <= chunk.at {
                 return count;
             }
             count += 1;
         }
-        at = next;
+        at = chunk.next;
     }
 }

@@ -1,5 +1,7 @@
 -- The last eight cells of a node's row, from the flat run behind its numbers.
-use Rattle.std.specs.Prelude.{◌≡◌, ℕ, not, List, [], ◌∷◌, ◌++◌, T}
+use Rattle.std.specs.Prelude as std
+use Rattle.b3d_chunk_walk.specs.declared.FlatChunk.{FlatChunk}
+use Rattle.std.specs.Prelude.{◌≡◌, ℕ, not, List, [], ◌∷◌, ◌++◌, T, Some, None}
 use Rattle.wire.specs.declared.Cursor.{Cursor}
 use Rattle.b3d_spec.specs.declared.Counts.{Counts}
 use Rattle.b3d_spec.specs.declared.Tag.{Tag}
@@ -10,8 +12,6 @@ use Rattle.b3d_spec.specs.Tags.{Chunks, is}
 use Rattle.b3d_spec_plain_rows.specs.Flat.{flat_at}
 use Rattle.b3d_spec_plain_rows.specs.Rows.{kind_of, anim_of}
 use Rattle.b3d_chunk_walk.specs.Walks.{ChunkIs}
-use Rattle.b3d_chunk_walk.specs.declared.Flat.{Flat}
-use Rattle.b3d_chunk_walk.specs.declared.Flat.TheVariants as flat
 
 -- the counts that a node's row takes from what was read before it: `meshes` meshes and `weights` weights; the others are 0 here
 unfoldable pub told : ℕ → ℕ → Counts
@@ -33,11 +33,11 @@ pub record OwnEnds (cs : Chunks) : Type 0 where
   pub kind : kind_of cs ≡ pivot
   pub anim : anim_of cs ≡ no_anim
 
-abbrev pub OwnIs : List ℕ → ℕ → Flat → Type 0
-OwnIs s at (flat.Chunk t p b q) = OwnChunk s at t p b q
-OwnIs s at flat.End = OwnEnds (flat_at s at)
+abbrev pub OwnIs : List ℕ → ℕ → std.Option FlatChunk → Type 0
+OwnIs s at (Some f) = OwnChunk s at f.tag f.at f.body f.next
+OwnIs s at None = OwnEnds (flat_at s at)
 
 -- what `own_next` promises of its answer r at place `at` of the file s
-pub record OwnSteps (s : List ℕ) (at : ℕ) (r : Flat) : Type 0 where
+pub record OwnSteps (s : List ℕ) (at : ℕ) (r : std.Option FlatChunk) : Type 0 where
   -- r is the own chunk that the flat run begins with, or there is none
   pub is : OwnIs s at r

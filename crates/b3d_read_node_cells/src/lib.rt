@@ -8,20 +8,20 @@ ghost use Rattle.b3d_spec_plain_rows.specs.Rows.{kind_of, anim_of};
 ghost use Rattle.b3d_read_node_cells.specs.Parts.{told, part_cells, OwnSteps};
 
 use b3d_chunk_cursor::Next;
-use b3d_chunk_walk::Flat;
+use b3d_chunk_walk::FlatChunk;
 use b3d_spec::Tag;
 use wire::Cursor;
 
-// Returns the next of a node's own chunks from `at` on; `End` at the next NODE, whose text is not looked at, at the file's end, at a cut header and at a
+// Returns the next of a node's own chunks from `at` on; `None` at the next NODE, whose text is not looked at, at the file's end, at a cut header and at a
 // length past the file.
-fn own_next(file: &[u8], at: usize) -> Flat
+fn own_next(file: &[u8], at: usize) -> Option<FlatChunk>
     requires { at ≤ length file.now }
     ensures { OwnSteps file.now at result }
 {
     let end = file.len();
     match b3d_chunk_cursor::next_chunk(file, Cursor { at, end }) {
-        Next::Done => Flat::End,
-        Next::Cut(_) => Flat::End,
+        Next::Done => None,
+        Next::Cut(_) => None,
         Next::Chunk {
             tag,
             at: p,
@@ -29,9 +29,14 @@ fn own_next(file: &[u8], at: usize) -> Flat
             next,
         } => {
             if b3d_chunk_cursor::same(tag, Tag::NODE) {
-                return Flat::End;
+                return None;
             }
-            Flat::Chunk(tag, p, body, next.at)
+            Some(FlatChunk {
+                tag,
+                at: p,
+                body,
+                next: next.at,
+            })
         }
     }
 }
@@ -44,21 +49,21 @@ fn kind_cells(file: &[u8], from: usize, meshes: usize, weights: usize) -> [u32; 
 {
     let mut at = from;
     loop {
-        let Flat::Chunk(tag, _, body, next) = own_next(file, at) else {
+        let Some(chunk) = own_next(file, at) else {
             return [0, 0, 0];
         };
-        if b3d_chunk_cursor::same(tag, Tag::MESH) {
+        if b3d_chunk_cursor::same(chunk.tag, Tag::MESH) {
             return [1, shared_table_words::cell(meshes), 1];
         }
-        if b3d_chunk_cursor::same(tag, Tag::BONE) {
-            let count = (body.end - body.at) / 8;
+        if b3d_chunk_cursor::same(chunk.tag, Tag::BONE) {
+            let count = (chunk.body.end - chunk.body.at) / 8;
             return [
                 2,
                 shared_table_words::cell(weights),
                 shared_table_words::cell(count),
             ];
         }
-        at = next;
+        at = chunk.next;
     }
 }
 
@@ -69,14 +74,14 @@ fn anim_cells(file: &[u8], from: usize) -> [u32; 4]
 {
     let mut at = from;
     loop {
-        let Flat::Chunk(tag, _, body, next) = own_next(file, at) else {
+        let Some(chunk) = own_next(file, at) else {
             return [0, 0, 0, 0];
         };
-        if b3d_chunk_cursor::same(tag, Tag::ANIM) {
-            let v = b3d_chunk_walk::three_words(file, body);
+        if b3d_chunk_cursor::same(chunk.tag, Tag::ANIM) {
+            let v = b3d_chunk_walk::three_words(file, chunk.body);
             return [1, v.first, v.second, v.third];
         }
-        at = next;
+        at = chunk.next;
     }
 }
 

@@ -1,4 +1,7 @@
 -- Table 3 has a row of each NODE: the loop of `store_bare_rows`.
+use Rattle.std.specs.Prelude.{Some, None}
+use Rattle.std.specs.Prelude as std
+use Rattle.b3d_chunk_cursor.specs.declared.Named.{Named}
 use mathlib.Core.Path.{◌≡◌, refl, ap, ap₂, sym, subst, ◌∙◌}
 use Prim.Native.Nat.{ℕ, suc, ◌+◌, ◌-◌, ◌*◌, ◌/◌, ◌<◌, ◌≤◌}
 use native.Mathlib.Nat.{div-le_self}
@@ -30,13 +33,10 @@ use Rattle.shared_table_words.proofs.StoreLaws.{sets-append}
 use Rattle.b3d_chunk_cursor.specs.Chunks.{NextIs, named_at, NamedIn}
 use Rattle.b3d_chunk_cursor.specs.declared.Next.{Next}
 use Rattle.b3d_chunk_cursor.specs.declared.Next.TheVariants as next
-use Rattle.b3d_chunk_cursor.specs.declared.Named.{Named}
-use Rattle.b3d_chunk_cursor.specs.declared.Named.TheVariants as named
 use Rattle.b3d_spec_plain_rows.specs.Flat.{rest, flat_at, flat}
 use Rattle.b3d_spec_plain_rows.specs.Rows.{Open, parent_at, counted, opened, kind_of, anim_of, nodes_before, row_of, node_rows, file_rows}
 use Rattle.b3d_spec_plain_rows.proofs.FlatRunLaws.{run-done}
 use Rattle.b3d_chunk_walk.specs.Walks.{NodeAt, NodeRead, ChunkIs, Steps}
-use Rattle.b3d_chunk_walk.specs.declared.Flat.TheVariants as run
 use Rattle.b3d_chunk_walk.proofs.CountLaws.{tag_same, counted-nodes, counted-meshes, counted-weights}
 use Rattle.b3d_chunk_walk.proofs.FlatLaws.{node-inside, node-cut, node_in, next-done, next-cut, next-node, next-other}
 use Rattle.b3d_read_node_cells.specs.Parts.{told}
@@ -195,7 +195,7 @@ module _ (s out₀ : List ℕ) where
       more_meshes = record { fits = omega (arith, v.few_meshes, v.inside) }
 
       -- the run ends
-      ends : Steps s at run.End → Bare s out₀ out nodes
+      ends : Steps s at None → Bare s out₀ out nodes
       unfolding joined
       ends x =
           let none : nodes_from s v.opens v.counts at ≡ [] = ap joined (x.is.nodes v.opens v.counts) in
@@ -236,25 +236,25 @@ module _ (s out₀ : List ℕ) where
             small = small;
           }
 
-          module _ (a : Named) (ea : a ≡ named_at s b 10) (ia : NamedIn b 10 a) where
-            pub tree_stop : length s < 0x100000000 → a ≡ named.Cut → Bare s out₀ out nodes
+          module _ (a : std.Option Named) (ea : a ≡ named_at s b 10) (ia : NamedIn b 10 a) where
+            pub tree_stop : length s < 0x100000000 → a ≡ None → Bare s out₀ out nodes
             tree_stop small u = ends small (node-cut s at p b there a ea ia u)
 
-            module _ (len : ℕ) (row q : Cursor) (u : a ≡ named.Is len row q) where
-              it : ChunkIs s at NODE p b q.at
-              it = (node_in s at p b there a ea ia len row q u).is
+            module _ (g : Named) (u : a ≡ Some g) where
+              it : ChunkIs s at NODE p b g.next.at
+              it = (node_in s at p b there a ea ia g u).is
 
-              pub tree_read : RowRead s p b len row
-              tree_read = node-read s p b there.body a ea ia len row q u
+              pub tree_read : RowRead s p b g.length g.row
+              tree_read = node-read s p b there.body a ea ia g u
 
-              pub tree_next : q.at ≤ length s
+              pub tree_next : g.next.at ≤ length s
               tree_next = it.to
 
-              pub tree_less : length s - q.at < length s - at
+              pub tree_less : length s - g.next.at < length s - at
               tree_less = omega (arith, it.more, it.to)
 
-              front : (parent : ℕ) → Front (p + 8) parent (λ below. row_with (named_of node_words (p + 8) (left b s)) (flat_at s q.at) parent below (told meshes weights))
-              front parent = row-front s p b (it.node tt) (flat_at s q.at) parent (told meshes weights)
+              front : (parent : ℕ) → Front (p + 8) parent (λ below. row_with (named_of node_words (p + 8) (left b s)) (flat_at s g.next.at) parent below (told meshes weights))
+              front parent = row-front s p b (it.node tt) (flat_at s g.next.at) parent (told meshes weights)
 
               body_long : length (left b s) ≡ b.end - b.at
               body_long = left-length s b tree_body
@@ -265,26 +265,26 @@ module _ (s out₀ : List ℕ) where
 
               -- a row, and those after it
               one : nodes_from s v.opens v.counts at
-                  ≡ ((mark (parent_at p v.opens)).cells ++ (nodes_before (p + 8 + length (left b s)) (flat_at s q.at) ∷ []))
-                  ++ nodes_from s (opened p (left b s) nodes v.opens) (counted NODE p (left b s) v.counts) q.at
+                  ≡ ((mark (parent_at p v.opens)).cells ++ (nodes_before (p + 8 + length (left b s)) (flat_at s g.next.at) ∷ []))
+                  ++ nodes_from s (opened p (left b s) nodes v.opens) (counted NODE p (left b s) v.counts) g.next.at
               unfolding node_rows joined if mark
               one =
                   let o = named_of node_words (p + 8) (left b s) in
-                  let cs = flat_at s q.at in
+                  let cs = flat_at s g.next.at in
                   let parent = parent_at p v.opens in
                   let end = p + 8 + length (left b s) in
                   let row-cells : row_of o cs parent end v.counts ≡ (mark parent).cells ++ (nodes_before end cs ∷ []) =
                   row_told o cs parent end v.counts ∙ ap₂ (λ (m k : ℕ). row_of o cs parent end (told m k)) v.meshes_are v.weights_are ∙ row-with o cs parent end (told meshes weights) ∙ (front parent).is (nodes_before end cs) in
                   ap (λ c. joined (node_rows v.opens v.counts c)) it.run
-                  ∙ ap₂ (λ (r : List ℕ) (k : ℕ). r ++ nodes_from s (opened p (left b s) k v.opens) (counted NODE p (left b s) v.counts) q.at) row-cells v.nodes_are
+                  ∙ ap₂ (λ (r : List ℕ) (k : ℕ). r ++ nodes_from s (opened p (left b s) k v.opens) (counted NODE p (left b s) v.counts) g.next.at) row-cells v.nodes_are
 
               pub tree_room : node_width * nodes + node_width ≤ length out
               unfolding mark
               tree_room =
                   let parent = parent_at p v.opens in
                   let cells = (mark parent).cells in
-                  let below = nodes_before (p + 8 + length (left b s)) (flat_at s q.at) in
-                  let later = nodes_from s (opened p (left b s) nodes v.opens) (counted NODE p (left b s) v.counts) q.at in
+                  let below = nodes_before (p + 8 + length (left b s)) (flat_at s g.next.at) in
+                  let later = nodes_from s (opened p (left b s) nodes v.opens) (counted NODE p (left b s) v.counts) g.next.at in
                   omega (
                     arith,
                     v.room,
@@ -300,7 +300,7 @@ module _ (s out₀ : List ℕ) where
                   )
 
               pub tree_node : (parent : ℕ) → ParentIs s out nodes p parent → (put : List ℕ)
-                  → put ≡ sets out (node_width * nodes) (row_with (named_of node_words (p + 8) (left b s)) (flat_at s q.at) parent 0 (told meshes weights)) → TreeLeft s out₀ put q.at (nodes + 1) meshes weights
+                  → put ≡ sets out (node_width * nodes) (row_with (named_of node_words (p + 8) (left b s)) (flat_at s g.next.at) parent 0 (told meshes weights)) → TreeLeft s out₀ put g.next.at (nodes + 1) meshes weights
               unfolding nodes_before if mark
               tree_node parent h put ep =
                   let l = v.opens in
@@ -309,7 +309,7 @@ module _ (s out₀ : List ℕ) where
                   let f = front parent in
                   let cells = (mark parent).cells in
                   let cells_are : put ≡ sets out (node_width * nodes) ((p + 8) ∷ f.size ∷ parent ∷ (f.others ++ (0 ∷ []))) = ep ∙ ap (sets out (node_width * nodes)) (f.is 0) in
-                  let link : Link s put q.at l (record { end = p + 8 + length (left b s); index = nodes }) =
+                  let link : Link s put g.next.at l (record { end = p + 8 + length (left b s); index = nodes }) =
                   record {
                     head = p;
                     before = omega (arith, it.behind);
@@ -325,8 +325,8 @@ module _ (s out₀ : List ℕ) where
                   λ j i. ap (λ (y : List ℕ). get_or y j 0) cells_are ∙ sets_below ((p + 8) ∷ f.size ∷ parent ∷ (f.others ++ (0 ∷ []))) out (node_width * nodes) j (omega (arith, v.long)) in
                   let m = mark parent in
                   let rows = rows_after nodes v.marks in
-                  let later = nodes_from s (opened p (left b s) nodes l) (counted NODE p (left b s) v.counts) q.at in
-                  let below = nodes_before (p + 8 + length (left b s)) (flat_at s q.at) in
+                  let later = nodes_from s (opened p (left b s) nodes l) (counted NODE p (left b s) v.counts) g.next.at in
+                  let below = nodes_before (p + 8 + length (left b s)) (flat_at s g.next.at) in
                   let one-here : nodes_from s l v.counts at ≡ (cells ++ (below ∷ [])) ++ later = one ∙ ap (λ (k : ℕ). ((mark k).cells ++ (below ∷ [])) ++ later) (sym pe) in
                   let base : 0 + length rows ≡ node_width * nodes = omega (arith, rows_long s nodes v.marks v.all, v.marks_long) in
                   let count : suc (length v.marks) ≡ nodes + 1 = omega (arith, v.marks_long) in
@@ -337,7 +337,7 @@ module _ (s out₀ : List ℕ) where
                     meshes_are = counted-meshes p (left b s) v.counts NODE ∙ v.meshes_are;
                     weights_are = counted-weights p (left b s) v.counts NODE ∙ v.weights_are;
                     long = omega (arith, v.long);
-                    linked = (link, linked-after s out put at q.at (omega (arith, it.more)) l before v.linked);
+                    linked = (link, linked-after s out put at g.next.at (omega (arith, it.more)) l before v.linked);
                     few_nodes = omega (arith, v.few_nodes, it.more);
                     few_meshes = omega (arith, v.few_meshes, it.more);
                     few_weights = omega (arith, v.few_weights, it.more);
@@ -348,7 +348,7 @@ module _ (s out₀ : List ℕ) where
                         (record { long = omega (arith, f.long); name = refl; end_is = ap (λ (k : ℕ). p + 8 + k) (sym it.size); within = omega (arith, body_long, it.body.head, it.body.room, it.body.within) });
                     room = v.room;
                     rows = v.rows ∙ ap (λ (y : List ℕ). rows_ahead (flat_at s at) v.marks ++ y) one-here ∙ sym (append_assoc (rows_ahead (flat_at s at) v.marks) (cells ++ (below ∷ [])) later)
-                        ∙ ap (λ (y : List ℕ). y ++ later) (sym (rows-node (flat_at s at) (flat_at s q.at) m (λ e. ap (nodes_before e) it.run) v.marks));
+                        ∙ ap (λ (y : List ℕ). y ++ later) (sym (rows-node (flat_at s at) (flat_at s g.next.at) m (λ e. ap (nodes_before e) it.run) v.marks));
                     stores = ep ∙ ap (sets out (node_width * nodes)) (f.is 0) ∙ ap₂ (λ (y : List ℕ) (k : ℕ). sets y k (cells ++ (0 ∷ []))) v.stores (sym base) ∙ sym (sets-append rows (cells ++ (0 ∷ [])) out₀ 0)
                         ∙ ap (λ (k : ℕ). sets out₀ 0 (rows_after k v.marks ++ (cells ++ (0 ∷ [])))) (sym v.marks_long) ∙ ap (sets out₀ 0) (sym (bare_more v.marks m)) ∙ ap (λ (k : ℕ). sets out₀ 0 (rows_after k (v.marks ++ (m ∷ [])))) count;
                   }

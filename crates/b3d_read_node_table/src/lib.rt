@@ -8,7 +8,7 @@ ghost use Rattle.layout.specs.Rows.{joined};
 ghost use Rattle.b3d_spec_plain_rows.specs.Rows.{file_rows};
 ghost use Rattle.b3d_read_node_table.specs.Bare.{Bare};
 
-use b3d_chunk_cursor::{Named, Next};
+use b3d_chunk_cursor::Next;
 use b3d_spec::{NODE_WIDTH, Tag};
 use wire::Cursor;
 
@@ -40,24 +40,27 @@ fn store_bare_rows(file: &[u8], out: &mut [u32]) -> usize
                 next,
             } => {
                 if b3d_chunk_cursor::same(tag, Tag::NODE) {
-                    match b3d_chunk_cursor::named_row(file, body, 10) {
-                        Named::Cut => {
-                            return nodes;
-                        }
-                        Named::Is {
-                            length: long,
-                            row,
-                            next: own,
-                        } => {
-                            let parent = b3d_read_node_parents::parent_at(file, out, nodes, p);
-                            let base = NODE_WIDTH * nodes;
-                            at = own.at;
-                            b3d_read_nodes::store_row(
-                                file, p, body, long, row, at, parent, 0, meshes, weights, base, out,
-                            );
-                            nodes += 1;
-                        }
-                    }
+                    let Some(named) = b3d_chunk_cursor::named_row(file, body, 10) else {
+                        return nodes;
+                    };
+                    let parent = b3d_read_node_parents::parent_at(file, out, nodes, p);
+                    let base = NODE_WIDTH * nodes;
+                    at = named.next.at;
+                    b3d_read_nodes::store_row(
+                        file,
+                        p,
+                        body,
+                        named.length,
+                        named.row,
+                        at,
+                        parent,
+                        0,
+                        meshes,
+                        weights,
+                        base,
+                        out,
+                    );
+                    nodes += 1;
                 } else {
                     if b3d_chunk_cursor::same(tag, Tag::MESH) {
                         meshes += 1;

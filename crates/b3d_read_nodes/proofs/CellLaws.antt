@@ -1,4 +1,7 @@
 -- A node's row put together: the cells of its name and its parent, its ten numbers, and the eight cells of its chunks.
+use Rattle.std.specs.Prelude.{Some, None}
+use Rattle.std.specs.Prelude as std
+use Rattle.b3d_chunk_cursor.specs.declared.Named.{Named}
 use mathlib.Core.Path.{◌≡◌, refl, ap, sym, ◌∙◌}
 use Prim.Native.Nat.{ℕ, ◌+◌, ◌<◌, ◌≤◌}
 use native.Mathlib.Omega.{arith}
@@ -18,8 +21,6 @@ use Rattle.b3d_spec.specs.Tables.{node_row}
 use Rattle.b3d_spec.specs.Tags.{Chunks}
 use Rattle.shared_table_words.proofs.StoreLaws.{sets-append}
 use Rattle.b3d_chunk_cursor.specs.Chunks.{named_at, NamedIn}
-use Rattle.b3d_chunk_cursor.specs.declared.Named.{Named}
-use Rattle.b3d_chunk_cursor.specs.declared.Named.TheVariants as named
 use Rattle.b3d_chunk_cursor.proofs.NamedLaws.{named-cut, named-any, named-among, row_inside, row_room}
 use Rattle.b3d_spec_plain_rows.specs.Rows.{nodes_before, row_of}
 use Rattle.b3d_chunk_walk.specs.Walks.{BodyAt}
@@ -29,6 +30,9 @@ use Rattle.b3d_read_nodes.specs.RowWith.{row_with, RowRead}
 -- ---- `store_row`
 
 module _ (s : List ℕ) (p : ℕ) (b : Cursor) (len : ℕ) (w : Cursor) (y : RowRead s p b len w) where
+  abbrev here : Named
+  here = record { length = len; row = w; next = y.after }
+
   body-inside : Inside b (length s)
   body-inside = record { before = y.body.room; within = y.body.within }
 
@@ -39,10 +43,10 @@ module _ (s : List ℕ) (p : ℕ) (b : Cursor) (len : ℕ) (w : Cursor) (y : Row
   row-size small = let f = y.among in omega (arith, y.body.within, f.row, f.after, f.to, f.same)
 
   pub row-numbers : Inside w (length s)
-  row-numbers = row_inside b 10 (named.Is len w y.after) y.among len w y.after refl (length s) body-inside
+  row-numbers = row_inside b 10 (Some here) y.among here refl (length s) body-inside
 
   pub row-ten : w.at + 40 ≤ w.end
-  row-ten = row_room b 10 (named.Is len w y.after) y.among len w y.after refl
+  row-ten = row_room b 10 (Some here) y.among here refl
 
   ten-long : length (words_of 10 (left w s)) ≡ 10
   ten-long = length-words-of 10 (left w s) (omega (arith, left-length s w row-numbers, row-ten))
@@ -50,7 +54,7 @@ module _ (s : List ℕ) (p : ℕ) (b : Cursor) (len : ℕ) (w : Cursor) (y : Row
   row_is : (cs : Chunks) (parent below : ℕ) (k : Counts) → row_with (named_of node_words (p + 8) (left b s)) cs parent below k ≡ (b.at ∷ len ∷ parent ∷ []) ++ (words_of 10 (left w s) ++ part_cells cs below k)
   unfolding row_with node_row name_cells part_cells
   row_is cs parent below k =
-      let c = ap (λ (j : ℕ). named_of node_words j (left b s)) (sym y.body.head) ∙ named-any s b 10 body-inside (named.Is len w y.after) y.is len w y.after refl in
+      let c = ap (λ (j : ℕ). named_of node_words j (left b s)) (sym y.body.head) ∙ named-any s b 10 body-inside (Some here) y.is here refl in
       let f = y.among in
       let l : length (take len (left b s)) ≡ len = length-take-le len (left b s) (omega (arith, left-length s b body-inside, f.row, f.after, f.to, f.same)) in
       ap (λ (o : Result (Step (Name × List ℕ))). row_with o cs parent below k) c ∙ ap (λ (j : ℕ). b.at ∷ j ∷ parent ∷ (words_of 10 (left w s) ++ part_cells cs below k)) l
@@ -81,15 +85,15 @@ module _ (s : List ℕ) (p : ℕ) (b : Cursor) (y : BodyAt s p b) where
   pub node-inside : Inside b (length s)
   node-inside = record { before = y.room; within = y.within }
 
-  module _ (r : Named) (e : r ≡ named_at s b 10) where
-    pub node-cut : r ≡ named.Cut → (cs : Chunks) (parent end : ℕ) (k : Counts) (base : ℕ) (out : List ℕ) → out ≡ sets out base (row_of (named_of node_words (p + 8) (left b s)) cs parent end k)
+  module _ (r : std.Option Named) (e : r ≡ named_at s b 10) where
+    pub node-cut : r ≡ None → (cs : Chunks) (parent end : ℕ) (k : Counts) (base : ℕ) (out : List ℕ) → out ≡ sets out base (row_of (named_of node_words (p + 8) (left b s)) cs parent end k)
     unfolding row_of
     node-cut q cs parent end k base out =
         let c : named_of node_words (p + 8) (left b s) ≡ reject 5 b.at = ap (λ (j : ℕ). named_of node_words j (left b s)) (sym y.head) ∙ named-cut s b 10 node-inside node_words refl r e q in
         sym (ap (λ (o : Result (Step (Name × List ℕ))). sets out base (row_of o cs parent end k)) c)
 
-    pub node-read : NamedIn b 10 r → (len : ℕ) (w n : Cursor) → r ≡ named.Is len w n → RowRead s p b len w
-    node-read i len w n q = record { body = y; after = n; is = sym q ∙ e; among = named-among b 10 r i len w n q }
+    pub node-read : NamedIn b 10 r → (f : Named) → r ≡ Some f → RowRead s p b f.length f.row
+    node-read i f q = record { body = y; after = f.next; is = sym q ∙ e; among = named-among b 10 r i f q }
 
 pub node_row_is : (o : Result (Step (Name × List ℕ))) (cs : Chunks) (parent end : ℕ) (k : Counts) (base : ℕ) (out put : List ℕ) (below : ℕ) → below ≡ nodes_before end cs
     → put ≡ sets out base (row_with o cs parent below k) → put ≡ sets out base (row_of o cs parent end k)

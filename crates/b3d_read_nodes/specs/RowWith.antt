@@ -1,5 +1,5 @@
 -- A node's row with a given branch word, and what is read of the node before its row is stored.
-use Rattle.std.specs.Prelude.{◌≡◌, ℕ, List, []}
+use Rattle.std.specs.Prelude.{◌≡◌, ℕ, List, [], Some}
 use Rattle.wire.specs.declared.Cursor.{Cursor}
 use Rattle.layout.specs.Result.{Result, accept, reject}
 use Rattle.layout.specs.Parts.{Name, Step}
@@ -7,7 +7,6 @@ use Rattle.b3d_spec.specs.declared.Counts.{Counts}
 use Rattle.b3d_spec.specs.Tables.{node_row}
 use Rattle.b3d_spec.specs.Tags.{Chunks}
 use Rattle.b3d_chunk_cursor.specs.Chunks.{named_at, RowIn}
-use Rattle.b3d_chunk_cursor.specs.declared.Named.TheVariants as named
 use Rattle.b3d_spec_plain_rows.specs.Rows.{kind_of, anim_of}
 use Rattle.b3d_chunk_walk.specs.Walks.{BodyAt}
 
@@ -23,6 +22,6 @@ pub record RowRead (s : List ℕ) (p : ℕ) (b : Cursor) (len : ℕ) (w : Cursor
   -- the cursor behind the numbers
   pub after : Cursor
   -- name and numbers are all there
-  pub is : named.Is len w after ≡ named_at s b 10
+  pub is : Some (record { length = len; row = w; next = after }) ≡ named_at s b 10
   -- and stand in the body
   pub among : RowIn b len w after 10

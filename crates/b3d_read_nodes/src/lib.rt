@@ -69,17 +69,11 @@ pub fn store_node(
     ensures { out.new ≡ stored out.old
         base (row_of (named node_row (p + 8) (left body file.now)) (flat_at file.now next) parent body.end (told meshes weights)) }
 {
-    match b3d_chunk_cursor::named_row(file, body, 10) {
-        Named::Cut => {}
-        Named::Is {
-            length: long,
-            row,
-            ..
-        } => {
-            let below = b3d_read_node_branch::nodes_before(file, next, body.end);
-            store_row(
-                file, p, body, long, row, next, parent, below, meshes, weights, base, out,
-            );
-        }
-    }
+    let Some(Named { length, row, .. }) = b3d_chunk_cursor::named_row(file, body, 10) else {
+        return;
+    };
+    let below = b3d_read_node_branch::nodes_before(file, next, body.end);
+    store_row(
+        file, p, body, length, row, next, parent, below, meshes, weights, base, out,
+    );
 }

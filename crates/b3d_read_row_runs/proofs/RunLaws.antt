@@ -5,7 +5,7 @@ use mathlib.Core.Path.{◌≡◌, refl, ap, ap₂, sym, ◌∙◌}
 use mathlib.Core.List.{List, ◌++◌}
 use lib.ListN.{length, replicate, length-replicate, length-append}
 use lib.Seq.{sets, sets as stored, length-sets}
-use native.Mathlib.Nat.{suc-mul}
+use native.Mathlib.Nat.{suc-mul, mul-le-mul_right}
 use Rattle.shared_table_words.specs.Words.{words_at}
 use Rattle.shared_table_words.proofs.CopyLaws.{length-words}
 use Rattle.shared_table_words.proofs.StoreLaws.{Storing, store_run, store_done, sets-append}
@@ -117,48 +117,55 @@ parts-wide h a wide b rest last ha hb w =
 
 -- ---- rows, one after the other
 
-pub record RowsLeft (row : List ℕ → ℕ → List ℕ) (width : ℕ) (s : List ℕ) (words base : ℕ) (out₀ : List ℕ) (count from : ℕ) (out : List ℕ) (n at o : ℕ) : Type 0 where
-  pub place : at + n * (4 * words) ≤ length s
-  pub room : o + n * width ≤ length out₀
-  pub stores : Storing out₀ base (rows_at row words count s from) out o (rows_at row words n s at)
+-- the first i of `count` rows are stored
+pub record RowsFrom (row : List ℕ → ℕ → List ℕ) (width : ℕ) (s : List ℕ) (words base : ℕ) (out₀ : List ℕ) (count from : ℕ) (out : List ℕ) (i : ℕ) : Type 0 where
+  pub some : i ≤ count
+  pub place : from + count * (4 * words) ≤ length s
+  pub room : base + count * width ≤ length out₀
+  pub stores : Storing out₀ base (rows_at row words count s from) out (base + i * width) (rows_at row words (count - i) s (from + i * (4 * words)))
 
 module _ (row : List ℕ → ℕ → List ℕ) (width : ℕ) (s : List ℕ) (words base : ℕ) (out₀ : List ℕ) (count from : ℕ) where
-  pub rows_none : from + count * (4 * words) ≤ length s → base + count * width ≤ length out₀ → RowsLeft row width s words base out₀ count from out₀ count from base
-  rows_none h r = record { place = h; room = r; stores = record { long = refl; same = refl } }
+  pub rows_none : from + count * (4 * words) ≤ length s → base + count * width ≤ length out₀ → RowsFrom row width s words base out₀ count from out₀ 0
+  rows_none h r =
+      let z : count - 0 ≡ count = omega arith in
+      let b : base + 0 * width ≡ base = omega arith in
+      let f : from + 0 * (4 * words) ≡ from = omega arith in
+      record { some = omega arith; place = h; room = r; stores = rw (z, b, f) (record { long = refl; same = refl }) }
 
-  module _ (out : List ℕ) (n at o : ℕ) (v : RowsLeft row width s words base out₀ count from out n at o) where
+  module _ (out : List ℕ) (i : ℕ) (v : RowsFrom row width s words base out₀ count from out i) where
     pub rows_long : length out ≡ length out₀
     rows_long = v.stores.long
 
-    pub rows_done : n ≤ 0 → out ≡ stored out₀ base (rows_at row words count s from)
+    pub rows_done : count ≤ i → out ≡ stored out₀ base (rows_at row words count s from)
     unfolding rows_at
-    rows_done h = let z : n ≡ 0 = omega arith in store_done v.stores (rw z)
+    rows_done h = let z : count - i ≡ 0 = omega arith in store_done v.stores (rw z)
 
-    module _ (h : 0 < n) where
-      others : n ≡ suc (n - 1)
-      others = omega arith
+    module _ (h : i < count) where
+      after : (k : ℕ) → (i + 1) * k ≡ i * k + k
+      after k = let z : i + 1 ≡ suc i = omega arith in rw z (suc-mul i k)
 
-      times : (k : ℕ) → n * k ≡ (n - 1) * k + k
-      times k = ap (λ (i : ℕ). i * k) others ∙ suc-mul (n - 1) k
+      within : (k : ℕ) → (i + 1) * k ≤ count * k
+      within k = mul-le-mul_right k (omega arith)
 
-      pub rows_place : at + 4 * words ≤ length s
-      rows_place = omega (arith, v.place, times (4 * words))
+      pub rows_place : from + i * (4 * words) + 4 * words ≤ length s
+      rows_place = omega (arith, v.place, after (4 * words), within (4 * words))
 
-      pub rows_take : (size : ℕ) → words ≡ size → at + 4 * size ≤ length s
-      rows_take size e = rw (← e) rows_place
+      pub rows_take : (size : ℕ) → words ≡ size → from + i * (4 * words) + 4 * size ≤ length s
+      rows_take size e = omega (arith, rows_place, e)
 
-      pub rows_room : o + width ≤ length out
-      rows_room = omega (arith, v.room, v.stores.long, times width)
+      pub rows_room : base + i * width + width ≤ length out
+      rows_room = omega (arith, v.room, v.stores.long, after width, within width)
 
-      first : rows_at row words n s at ≡ row s at ++ rows_at row words (n - 1) s (at + 4 * words)
+      first : rows_at row words (count - i) s (from + i * (4 * words)) ≡ row s (from + i * (4 * words)) ++ rows_at row words (count - (i + 1)) s (from + (i + 1) * (4 * words))
       unfolding rows_at
-      first = ap (λ (k : ℕ). rows_at row words k s at) others
+      first =
+          let z : count - i ≡ suc (count - (i + 1)) = omega arith in
+          let e : from + i * (4 * words) + 4 * words ≡ from + (i + 1) * (4 * words) = omega (arith, after (4 * words)) in
+          rw (z, e)
 
-      pub rows_on : Wide row width → (put : List ℕ) → put ≡ stored out o (row s at) → RowsLeft row width s words base out₀ count from put (n - 1) (at + 4 * words) (o + width)
-      rows_on wd put f = record {
-        place = omega (arith, v.place, times (4 * words));
-        room = omega (arith, v.room, times width);
-        stores = rw (f, ← wd.wide s at) (store_run v.stores (row s at) first);
-      }
+      pub rows_on : Wide row width → (put : List ℕ) → put ≡ stored out (base + i * width) (row s (from + i * (4 * words))) → RowsFrom row width s words base out₀ count from put (i + 1)
+      rows_on wd put f =
+          let l : base + i * width + length (row s (from + i * (4 * words))) ≡ base + (i + 1) * width = omega (arith, wd.wide s (from + i * (4 * words)), after width) in
+          record { some = omega arith; place = v.place; room = v.room; stores = rw f (rw l at (store_run v.stores (row s (from + i * (4 * words))) first)) }
 
 pub ruleset rows_laws = (rows_none, rows_long, rows_done, rows_place, rows_take, rows_room, rows_on)

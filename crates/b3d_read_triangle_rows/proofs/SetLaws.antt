@@ -1,4 +1,7 @@
 -- The loop of `put_sets` over the TRIS of a MESH.
+use Rattle.std.specs.Prelude.{Some, None}
+use Rattle.std.specs.Prelude as std
+use Rattle.b3d_chunk_walk.specs.declared.Sought.{Sought}
 use mathlib.Core.Path.{◌≡◌, refl, ap, sym, ◌∙◌}
 use Prim.Native.Nat.{ℕ, ◌+◌, ◌-◌, ◌*◌, ◌<◌, ◌≤◌}
 use native.Mathlib.Omega.{arith}
@@ -18,8 +21,6 @@ use Rattle.b3d_spec_plain_rows.specs.Plain.{plain_triangles, sets_of}
 use Rattle.b3d_chunk_walk.specs.Walks.{BodyAt}
 use Rattle.b3d_chunk_walk.specs.Seeks.{ahead, Seeks, FirstWord}
 use Rattle.b3d_chunk_walk.specs.declared.Headed.{Headed}
-use Rattle.b3d_chunk_walk.specs.declared.Sought.{Sought}
-use Rattle.b3d_chunk_walk.specs.declared.Sought.TheVariants as sought
 use Rattle.b3d_chunk_walk.proofs.SeekLaws.{sought_among, sought_body, sought_next, sought_less}
 use Rattle.b3d_chunk_walk.proofs.PutLaws.{Putting, put-start, put_long, put_room, put_more, put_done, put_end}
 use Rattle.b3d_chunk_walk.proofs.MeshLaws.{mesh-inside, mesh-inner, no-set, one_set}
@@ -75,8 +76,8 @@ module _ (s : List ℕ) (p : ℕ) (b : Cursor) (mesh first base : ℕ) (out₀ :
     pub sets_word : length s < 0x100000000 → Fits w64 (o + 4)
     sets_word small = record { fits = omega (arith, v.few_words, v.inside.before, v.inside.within) }
 
-    module _ (r : Sought) (x : Seeks s c TRIS r) where
-      module _ (w : r ≡ sought.Nothing) where
+    module _ (r : std.Option Sought) (x : Seeks s c TRIS r) where
+      module _ (w : r ≡ None) where
         none : from s mesh n c ≡ []
         unfolding joined set_rows
         none = ap (λ l. joined (set_rows mesh n l)) (no-set s c r x w)
@@ -96,46 +97,46 @@ module _ (s : List ℕ) (p : ℕ) (b : Cursor) (mesh first base : ℕ) (out₀ :
               few = omega (arith, v.few, v.inside.before, v.same_end, u.to_end);
             })
 
-      module _ (q : ℕ) (d m : Cursor) (w : r ≡ sought.Found q d m) where
-        pub set_body : Inside d (length s)
-        set_body = sought_body s c TRIS r x q d m w (length s) v.inside
+      module _ (d : Sought) (w : r ≡ Some d) where
+        pub set_body : Inside d.body (length s)
+        set_body = sought_body s c TRIS r x d w (length s) v.inside
 
-        pub set_less : m.end - m.at < c.end - c.at
-        set_less = sought_less s c TRIS r x q d m w
+        pub set_less : d.next.end - d.next.at < c.end - c.at
+        set_less = sought_less s c TRIS r x d w
 
-        one : (k : ℕ) → k ≡ length (plain_triangles (left d s)).triangles → from s mesh n c ≡ set_row mesh n (plain_triangles (left d s)) ++ from s mesh (n + k) m
+        one : (k : ℕ) → k ≡ length (plain_triangles (left d.body s)).triangles → from s mesh n c ≡ set_row mesh n (plain_triangles (left d.body s)) ++ from s mesh (n + k) d.next
         unfolding set_rows set_row joined
-        one k ek = ap (λ l. joined (set_rows mesh n l)) (one_set s c r x q d m w) ∙ rw ek
+        one k ek = ap (λ l. joined (set_rows mesh n l)) (one_set s c r x d w) ∙ rw ek
 
         pub set_room : base + length (joined (sets_in p (left b s) mesh first)) ≤ length out₀ → o + 4 ≤ length out
         unfolding set_row
-        set_room h = put_room v.puts (rw all h) (set_row mesh n (plain_triangles (left d s))) (from s mesh (n + length (plain_triangles (left d s)).triangles) m) (one _ refl)
+        set_room h = put_room v.puts (rw all h) (set_row mesh n (plain_triangles (left d.body s))) (from s mesh (n + length (plain_triangles (left d.body s)).triangles) d.next) (one _ refl)
 
-        module _ (k : ℕ) (ek : k ≡ length (plain_triangles (left d s)).triangles) where
-          bound : n + k ≤ m.at
+        module _ (k : ℕ) (ek : k ≡ length (plain_triangles (left d.body s)).triangles) where
+          bound : n + k ≤ d.next.at
           bound =
-              let f = sought_among s c TRIS r x q d m w in
-              omega (arith, group-few false (left d s), left-most s d, v.few)
+              let f = sought_among s c TRIS r x d w in
+              omega (arith, group-few false (left d.body s), left-most s d.body, v.few)
 
           pub set_sum : length s < 0x100000000 → Fits w64 (n + k)
           set_sum small =
-              let i = sought_next s c TRIS r x q d m w (length s) v.inside in
+              let i = sought_next s c TRIS r x d w (length s) v.inside in
               record { fits = omega (arith, bound) }
 
-          more : many s c ≡ k + many s m
+          more : many s c ≡ k + many s d.next
           unfolding triangle_rows
           more =
-              ap (λ l. length (triangle_rows l)) (one_set s c r x q d m w) ∙ length-append (plain_triangles (left d s)).triangles (triangle_rows (sets_of (ahead s m)))
-              ∙ ap (λ (j : ℕ). j + many s m) (sym ek)
+              ap (λ l. length (triangle_rows l)) (one_set s c r x d w) ∙ length-append (plain_triangles (left d.body s)).triangles (triangle_rows (sets_of (ahead s d.next)))
+              ∙ ap (λ (j : ℕ). j + many s d.next) (sym ek)
 
-          pub set_put : (put : List ℕ) → put ≡ sets out o (set_row mesh n (plain_triangles (left d s))) → SetsLeft s g.rest mesh first base out₀ m put (o + 4) (n + k)
+          pub set_put : (put : List ℕ) → put ≡ sets out o (set_row mesh n (plain_triangles (left d.body s))) → SetsLeft s g.rest mesh first base out₀ d.next put (o + 4) (n + k)
           unfolding set_row
           set_put put ep =
-              let f = sought_among s c TRIS r x q d m w in
+              let f = sought_among s c TRIS r x d w in
               record {
-                inside = sought_next s c TRIS r x q d m w (length s) v.inside;
+                inside = sought_next s c TRIS r x d w (length s) v.inside;
                 same_end = f.same ∙ v.same_end;
-                puts = put_more v.puts (set_row mesh n (plain_triangles (left d s))) (from s mesh (n + k) m) put (o + 4) (one k ek) refl ep;
+                puts = put_more v.puts (set_row mesh n (plain_triangles (left d.body s))) (from s mesh (n + k) d.next) put (o + 4) (one k ek) refl ep;
                 total = omega (arith, v.total, more);
                 few = bound;
                 few_words = omega (arith, v.few_words);

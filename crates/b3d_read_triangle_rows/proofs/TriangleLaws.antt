@@ -1,4 +1,7 @@
 -- The triangles of a MESH: the loop of `store_triangles`.
+use Rattle.std.specs.Prelude.{Some, None}
+use Rattle.std.specs.Prelude as std
+use Rattle.b3d_chunk_walk.specs.declared.Sought.{Sought}
 use mathlib.Core.Path.{◌≡◌, refl, ap, sym, ◌∙◌}
 use Prim.Native.Nat.{ℕ, ◌+◌, ◌-◌, ◌<◌, ◌≤◌}
 use mathlib.Core.List.{List, [], ◌++◌}
@@ -14,8 +17,6 @@ use Rattle.b3d_spec_plain_rows.specs.Plain.{whole, plain_triangles, sets_of}
 use Rattle.b3d_chunk_walk.specs.Walks.{BodyAt}
 use Rattle.b3d_chunk_walk.specs.Seeks.{ahead, Seeks, FirstWord}
 use Rattle.b3d_chunk_walk.specs.declared.Headed.{Headed}
-use Rattle.b3d_chunk_walk.specs.declared.Sought.{Sought}
-use Rattle.b3d_chunk_walk.specs.declared.Sought.TheVariants as sought
 use Rattle.b3d_chunk_walk.proofs.SeekLaws.{sought_body, sought_next, sought_less}
 use Rattle.b3d_chunk_walk.proofs.PutLaws.{Putting, put-start, put_long, put_room, put_more, put_done, put_end}
 use Rattle.b3d_read_triangle_rows.specs.Sets.{triangles_in}
@@ -45,8 +46,8 @@ module _ (s : List ℕ) (p : ℕ) (b : Cursor) (base : ℕ) (out₀ : List ℕ) 
     pub triangles_long : length out ≡ length out₀
     triangles_long = put_long v.puts
 
-    module _ (r : Sought) (x : Seeks s c TRIS r) where
-      module _ (w : r ≡ sought.Nothing) where
+    module _ (r : std.Option Sought) (x : Seeks s c TRIS r) where
+      module _ (w : r ≡ None) where
         none : from s c ≡ []
         unfolding joined triangle_rows
         none = ap (λ l. joined (triangle_rows l)) (no-set s c r x w)
@@ -57,26 +58,26 @@ module _ (s : List ℕ) (p : ℕ) (b : Cursor) (base : ℕ) (out₀ : List ℕ) 
         pub triangles_end : o ≡ base + length (joined (triangles_in p (left b s)))
         triangles_end = put_end v.puts none ∙ ap (λ l. base + length l) all
 
-      module _ (q : ℕ) (d n : Cursor) (w : r ≡ sought.Found q d n) where
-        pub set_body : Inside d (length s)
-        set_body = sought_body s c TRIS r x q d n w (length s) v.inside
+      module _ (d : Sought) (w : r ≡ Some d) where
+        pub set_body : Inside d.body (length s)
+        set_body = sought_body s c TRIS r x d w (length s) v.inside
 
-        pub set_less : n.end - n.at < c.end - c.at
-        set_less = sought_less s c TRIS r x q d n w
+        pub set_less : d.next.end - d.next.at < c.end - c.at
+        set_less = sought_less s c TRIS r x d w
 
-        module _ (h : Headed) (f : FirstWord s d h) where
-          some : from s c ≡ joined (whole 3 (left h.rest s)) ++ from s n
+        module _ (h : Headed) (f : FirstWord s d.body h) where
+          some : from s c ≡ joined (whole 3 (left h.rest s)) ++ from s d.next
           unfolding triangle_rows plain_triangles
-          some = ap (λ l. joined (triangle_rows l)) (one_set s c r x q d n w) ∙ joined-append _ _ ∙ ap (λ l. joined (whole 3 l) ++ from s n) (sym f.after)
+          some = ap (λ l. joined (triangle_rows l)) (one_set s c r x d w) ∙ joined-append _ _ ∙ ap (λ l. joined (whole 3 l) ++ from s d.next) (sym f.after)
 
           pub set_inside : Inside h.rest (length s)
           set_inside = f.inside
 
           pub set_room : base + length (joined (triangles_in p (left b s))) ≤ length out₀ → o + length (joined (whole 3 (left h.rest s))) ≤ length out
-          set_room m = put_room v.puts (rw all m) (joined (whole 3 (left h.rest s))) (from s n) some
+          set_room m = put_room v.puts (rw all m) (joined (whole 3 (left h.rest s))) (from s d.next) some
 
           pub set_put : (put : List ℕ) (to : ℕ) → to ≡ o + length (joined (whole 3 (left h.rest s))) → put ≡ sets out o (joined (whole 3 (left h.rest s)))
-              → TrianglesLeft s g.rest base out₀ n put to
-          set_put put to et ep = record { inside = sought_next s c TRIS r x q d n w (length s) v.inside; puts = put_more v.puts (joined (whole 3 (left h.rest s))) (from s n) put to some et ep }
+              → TrianglesLeft s g.rest base out₀ d.next put to
+          set_put put to et ep = record { inside = sought_next s c TRIS r x d w (length s) v.inside; puts = put_more v.puts (joined (whole 3 (left h.rest s))) (from s d.next) put to some et ep }
 
 pub ruleset triangles_laws = (mesh-inside, triangles_start, triangles_inside, triangles_long, triangles_done, triangles_end, set_body, set_less, set_inside, set_room, set_put)

@@ -22,7 +22,7 @@ pub fn store_triangles(file: &[u8], p: usize, body: Cursor, base: usize, out: &m
     let mut c = head.rest;
     let mut o = base;
     loop {
-        let Sought::Found { body: b, next, .. } = b3d_chunk_walk::seek(file, c, Tag::TRIS) else {
+        let Some(Sought { body: b, next, .. }) = b3d_chunk_walk::seek(file, c, Tag::TRIS) else {
             return o;
         };
         let set = b3d_chunk_walk::first_word(file, b);
@@ -58,7 +58,7 @@ pub fn put_sets(
     let mut o = base;
     let mut n = first;
     loop {
-        let Sought::Found { body: b, next, .. } = b3d_chunk_walk::seek(file, c, Tag::TRIS) else {
+        let Some(Sought { body: b, next, .. }) = b3d_chunk_walk::seek(file, c, Tag::TRIS) else {
             return After { base: o, first: n };
         };
         n += b3d_read_item_rows::store_group(file, b, false, mesh, n, o, out);

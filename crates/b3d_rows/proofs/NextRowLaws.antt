@@ -1,4 +1,6 @@
 -- The next row by the table: a law for each need.
+use Rattle.std.specs.Prelude.{Some, None}
+use Rattle.std.specs.Prelude as std
 use mathlib.Core.Path.{◌≡◌, refl, ap, sym, subst, ◌∙◌}
 use Prim.Native.Nat.{ℕ, ◌+◌, ◌<◌, ◌≤◌}
 use native.Mathlib.Omega.{arith}
@@ -11,8 +13,6 @@ use Rattle.wire.specs.Test.{if}
 use Rattle.b3d_rows_open_items.specs.ItemsLeft.{ItemTable}
 use Rattle.b3d_rows_positions.specs.Positions.{items_ahead, ItemPosition, Comes, NoRow}
 use Rattle.b3d_rows_positions.specs.declared.Position.{Position}
-use Rattle.b3d_rows_positions.specs.declared.NextPosition.{NextPosition}
-use Rattle.b3d_rows_positions.specs.declared.NextPosition.TheVariants as more
 use Rattle.b3d_rows_items.specs.NextItem.{ItemNexts}
 use Rattle.b3d_rows_chunks.specs.NextChunk.{chunks_ahead, ChunkPosition, ChunkNexts, sets_ahead, SetPosition, SetNexts}
 use Rattle.b3d_rows_items.specs.NextText.{texts_ahead, TextPosition, TextNexts}
@@ -78,9 +78,9 @@ module _ (k : ℕ) (s : List ℕ) (x : Position) (v : PartAt k s x) where
     pub four-at : ChunkPosition s x
     four-at = v.meshes e
 
-    pub four-next : (row put : List ℕ) (r : NextPosition) → ChunkNexts 4 s x row put r → PartNexts k s x row put r
-    four-next row put more.End n = record { is = none-as _ _ row put (from_four k s x e) n.is }
-    four-next row put (more.At y) n =
+    pub four-next : (row put : List ℕ) (r : std.Option Position) → ChunkNexts 4 s x row put r → PartNexts k s x row put r
+    four-next row put None n = record { is = none-as _ _ row put (from_four k s x e) n.is }
+    four-next row put (Some y) n =
         record {
           is = record {
             comes = comes-as k _ _ _ _ row put (from_four k s x e) (from_four k s y e) (rw e n.is.comes);
@@ -92,9 +92,9 @@ module _ (k : ℕ) (s : List ℕ) (x : Position) (v : PartAt k s x) where
     pub six_at : SetPosition s x
     six_at = v.sets e
 
-    pub six_next : (row put : List ℕ) (r : NextPosition) → SetNexts s x row put r → PartNexts k s x row put r
-    six_next row put more.End n = record { is = none-as _ _ row put (from_six k s x e) n.is }
-    six_next row put (more.At y) n =
+    pub six_next : (row put : List ℕ) (r : std.Option Position) → SetNexts s x row put r → PartNexts k s x row put r
+    six_next row put None n = record { is = none-as _ _ row put (from_six k s x e) n.is }
+    six_next row put (Some y) n =
         record {
           is = record {
             comes = comes-as k _ _ _ _ row put (from_six k s x e) (from_six k s y e) (rw e n.is.comes);
@@ -106,9 +106,9 @@ module _ (k : ℕ) (s : List ℕ) (x : Position) (v : PartAt k s x) where
     pub nine_at : ChunkPosition s x
     nine_at = v.lists e
 
-    pub nine_next : (row put : List ℕ) (r : NextPosition) → ChunkNexts 9 s x row put r → PartNexts k s x row put r
-    nine_next row put more.End n = record { is = none-as _ _ row put (from_nine k s x e) n.is }
-    nine_next row put (more.At y) n =
+    pub nine_next : (row put : List ℕ) (r : std.Option Position) → ChunkNexts 9 s x row put r → PartNexts k s x row put r
+    nine_next row put None n = record { is = none-as _ _ row put (from_nine k s x e) n.is }
+    nine_next row put (Some y) n =
         record {
           is = record {
             comes = comes-as k _ _ _ _ row put (from_nine k s x e) (from_nine k s y e) (rw e n.is.comes);
@@ -123,9 +123,9 @@ module _ (k : ℕ) (s : List ℕ) (x : Position) (v : PartAt k s x) where
     pub item-at : ItemPosition k s x
     item-at = v.items item-is
 
-    pub item-next : (row put : List ℕ) (r : NextPosition) → ItemNexts k s x row put r → PartNexts k s x row put r
-    item-next row put more.End n = record { is = none-as _ _ row put (from-items k s x d₄ d₆ d₉) n.is }
-    item-next row put (more.At y) n =
+    pub item-next : (row put : List ℕ) (r : std.Option Position) → ItemNexts k s x row put r → PartNexts k s x row put r
+    item-next row put None n = record { is = none-as _ _ row put (from-items k s x d₄ d₆ d₉) n.is }
+    item-next row put (Some y) n =
         record {
           is = record {
             comes = comes-as k _ _ _ _ row put (from-items k s x d₄ d₆ d₉) (from-items k s y d₄ d₆ d₉) n.is.comes;
@@ -158,9 +158,9 @@ module _ (k : ℕ) (s : List ℕ) (x : RowCursor) (v : RowCursorAt k s x) where
     pub text_at : TextPosition k s x.position
     text_at = v.texts le
 
-    text_case : (row put : List ℕ) (r : NextPosition) → TextNexts k s x.position row put r → RowNexts k s x row put (behind_row x r)
-    text_case row put more.End n = record { is = record { ended = none-as _ _ row put (from-texts k s x le) n.is; still = refl } }
-    text_case row put (more.At y) n =
+    text_case : (row put : List ℕ) (r : std.Option Position) → TextNexts k s x.position row put r → RowNexts k s x row put (behind_row x r)
+    text_case row put None n = record { is = record { ended = none-as _ _ row put (from-texts k s x le) n.is; still = refl } }
+    text_case row put (Some y) n =
         record {
           is = record {
             comes = comes-as k _ _ _ _ row put (from-texts k s x le) (from-texts k s (after y) le) n.is.comes;
@@ -168,7 +168,7 @@ module _ (k : ℕ) (s : List ℕ) (x : RowCursor) (v : RowCursorAt k s x) where
           };
         }
 
-    pub text-next : (row put : List ℕ) (r : NextPosition) → TextNexts k s x.position row put r → (a : NextCursor) → a ≡ behind_row x r → RowNexts k s x row put a
+    pub text-next : (row put : List ℕ) (r : std.Option Position) → TextNexts k s x.position row put r → (a : NextCursor) → a ≡ behind_row x r → RowNexts k s x row put a
     text-next row put r n a ea = subst (RowNexts k s x row put) (sym ea) (text_case row put r n)
 
   module _ (gt : 2 < k) where
@@ -194,9 +194,9 @@ module _ (k : ℕ) (s : List ℕ) (x : RowCursor) (v : RowCursorAt k s x) where
       pub part_at : PartAt k s x.position
       part_at = v.parts part_low
 
-      part_case : (row put : List ℕ) (r : NextPosition) → PartNexts k s x.position row put r → RowNexts k s x row put (behind_row x r)
-      part_case row put more.End n = record { is = record { ended = none-as _ _ row put (from_parts k s x gt d) n.is; still = refl } }
-      part_case row put (more.At y) n =
+      part_case : (row put : List ℕ) (r : std.Option Position) → PartNexts k s x.position row put r → RowNexts k s x row put (behind_row x r)
+      part_case row put None n = record { is = record { ended = none-as _ _ row put (from_parts k s x gt d) n.is; still = refl } }
+      part_case row put (Some y) n =
           record {
             is = record {
               comes = comes-as k _ _ _ _ row put (from_parts k s x gt d) (from_parts k s (after y) gt d) n.is.comes;
@@ -204,17 +204,17 @@ module _ (k : ℕ) (s : List ℕ) (x : RowCursor) (v : RowCursorAt k s x) where
             };
           }
 
-      pub part-next : (row put : List ℕ) (r : NextPosition) → PartNexts k s x.position row put r → (a : NextCursor) → a ≡ behind_row x r → RowNexts k s x row put a
+      pub part-next : (row put : List ℕ) (r : std.Option Position) → PartNexts k s x.position row put r → (a : NextCursor) → a ≡ behind_row x r → RowNexts k s x row put a
       part-next row put r n a ea = subst (RowNexts k s x row put) (sym ea) (part_case row put r n)
 
 pub ruleset row_laws = (text_at, text-next, node_at, node-next, part_low, part_at, part-next)
 
 -- ---- the position behind a row
 
-pub behind-none : (x : RowCursor) (n : NextPosition) → n ≡ more.End → (a : NextCursor) → a ≡ record { given = false; cursor = x } → a ≡ behind_row x n
+pub behind-none : (x : RowCursor) (n : std.Option Position) → n ≡ None → (a : NextCursor) → a ≡ record { given = false; cursor = x } → a ≡ behind_row x n
 behind-none x n w a e = e ∙ sym (ap (behind_row x) w)
 
-pub behind-at : (x : RowCursor) (n : NextPosition) (y : Position) → n ≡ more.At y → (a : NextCursor) → a ≡ record { given = true; cursor = record { position = y; path = x.path } } → a ≡ behind_row x n
+pub behind-at : (x : RowCursor) (n : std.Option Position) (y : Position) → n ≡ Some y → (a : NextCursor) → a ≡ record { given = true; cursor = record { position = y; path = x.path } } → a ≡ behind_row x n
 behind-at x n y w a e = e ∙ sym (ap (behind_row x) w)
 
 pub ruleset behind_laws = (behind-none, behind-at)

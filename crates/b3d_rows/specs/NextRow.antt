@@ -1,5 +1,6 @@
 -- The rows of table k, from 1 to 10, that are still to come from a place.
-use Rattle.std.specs.Prelude.{◌≡◌, ℕ, ◌≤◌, Bool, true, false, List, [], eqb, leb}
+use Rattle.std.specs.Prelude as std
+use Rattle.std.specs.Prelude.{◌≡◌, ℕ, ◌≤◌, Bool, true, false, List, [], eqb, leb, Some, None}
 use Rattle.wire.specs.Test.{if}
 use Rattle.b3d_spec_plain_rows.specs.Flat.{flat_at}
 use Rattle.b3d_spec_plain_rows.specs.Rows.{file_rows}
@@ -7,8 +8,6 @@ use Rattle.b3d_rows_open_items.specs.ItemsLeft.{ItemTable, Measured}
 use Rattle.b3d_rows_open_items.specs.declared.OpenItems.{OpenItems}
 use Rattle.b3d_rows_positions.specs.Positions.{items_ahead, ItemPosition, Comes, NoRow}
 use Rattle.b3d_rows_positions.specs.declared.Position.{Position}
-use Rattle.b3d_rows_positions.specs.declared.NextPosition.{NextPosition}
-use Rattle.b3d_rows_positions.specs.declared.NextPosition.TheVariants as more
 use Rattle.b3d_rows_chunks.specs.NextChunk.{chunks_ahead, ChunkPosition, sets_ahead, SetPosition}
 use Rattle.b3d_rows_items.specs.NextText.{texts_ahead, TextsOpen, TextPosition}
 use Rattle.b3d_rows_nodes.specs.NextNode.{Shallow, nodes_ahead, NodePosition}
@@ -78,19 +77,19 @@ pub record PartNext (k : ℕ) (s : List ℕ) (x : Position) (row put : List ℕ)
   -- the position behind it is one in table k
   pub at : PartAt k s y
 
-abbrev pub PartNextIs : ℕ → List ℕ → Position → List ℕ → List ℕ → NextPosition → Type 0
-PartNextIs k s x row put (more.At y) = PartNext k s x row put y
-PartNextIs k s x row put more.End = NoRow (parts_from k s x) row put
+abbrev pub PartNextIs : ℕ → List ℕ → Position → List ℕ → List ℕ → std.Option Position → Type 0
+PartNextIs k s x row put (Some y) = PartNext k s x row put y
+PartNextIs k s x row put None = NoRow (parts_from k s x) row put
 
 -- what `next_part` does
-pub record PartNexts (k : ℕ) (s : List ℕ) (x : Position) (row put : List ℕ) (r : NextPosition) : Type 0 where
+pub record PartNexts (k : ℕ) (s : List ℕ) (x : Position) (row put : List ℕ) (r : std.Option Position) : Type 0 where
   -- by the case of the answer
   pub is : PartNextIs k s x row put r
 
 -- the cursor x at a later position, x itself where there is none
-abbrev pub behind_row : RowCursor → NextPosition → NextCursor
-behind_row x (more.At y) = record { given = true; cursor = record { position = y; path = x.path } }
-behind_row x more.End = record { given = false; cursor = x }
+abbrev pub behind_row : RowCursor → std.Option Position → NextCursor
+behind_row x (Some y) = record { given = true; cursor = record { position = y; path = x.path } }
+behind_row x None = record { given = false; cursor = x }
 
 -- the step from x to y, over a row of table k; this is what `next_row` does
 pub record RowNext (k : ℕ) (s : List ℕ) (x : RowCursor) (row put : List ℕ) (y : RowCursor) : Type 0 where

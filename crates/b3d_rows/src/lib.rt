@@ -10,7 +10,7 @@ ghost use Rattle.b3d_rows.specs.NextRow.{rows_from, behind_row, FirstItems, Part
 
 use b3d_rows_nodes::{NextCursor, OpenNodes, RowCursor};
 use b3d_rows_open_items::OpenItems;
-use b3d_rows_positions::{NextPosition, Position};
+use b3d_rows_positions::Position;
 use b3d_spec::LEVELS;
 use wire::Cursor;
 
@@ -78,8 +78,8 @@ pub fn start(file: &[u8], k: u32) -> RowCursor
 }
 
 // Writes the next row of table `k`, which is 4 to 10, into the start of `row` and returns the position behind it. The cells behind the row stay. Where no row
-// is to come, `row` stays, and the answer is `End`.
-fn next_part(file: &[u8], k: u32, x: Position, row: &mut [u32]) -> NextPosition
+// is to come, `row` stays, and the answer is `None`.
+fn next_part(file: &[u8], k: u32, x: Position, row: &mut [u32]) -> Option<Position>
     requires { (4 ≤ k) × (k ≤ 10) × PartAt k file.now x × (vertex_width ≤ length row.old) }
     ensures { PartNexts k file.now x row.old row.new result }
 {
@@ -95,11 +95,11 @@ fn next_part(file: &[u8], k: u32, x: Position, row: &mut [u32]) -> NextPosition
     b3d_rows_items::next_item(file, k, x, row)
 }
 
-// Returns the cursor `x` at the position `n`; `x` itself, and that no row is given, where `n` is `End`.
-fn behind(x: RowCursor, n: NextPosition) -> NextCursor
+// Returns the cursor `x` at the position `n`; `x` itself, and that no row is given, where `n` is `None`.
+fn behind(x: RowCursor, n: Option<Position>) -> NextCursor
     ensures { result ≡ behind_row x n }
 {
-    let NextPosition::At(position) = n else {
+    let Some(position) = n else {
         return NextCursor {
             given: false,
             cursor: x,

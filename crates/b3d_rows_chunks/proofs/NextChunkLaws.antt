@@ -1,5 +1,8 @@
 -- The next mesh and the next key list: a law for each need.
-use mathlib.Core.Path.{◌≡◌, refl, ap, ap₂, sym, subst, ◌∙◌}
+use Rattle.std.specs.Prelude.{Some, None}
+use Rattle.std.specs.Prelude as std
+use Rattle.b3d_rows_positions.specs.declared.FoundChunk.{FoundChunk}
+use mathlib.Core.Path.{◌≡◌, refl, ap₂, sym, subst, ◌∙◌}
 use Prim.Native.Nat.{ℕ, ◌+◌, ◌-◌, ◌<◌, ◌≤◌}
 use native.Mathlib.Omega.{arith}
 use mathlib.Core.Bool.{true}
@@ -10,7 +13,6 @@ use lib.ListN.{length}
 use lib.Seq.{sets as stored}
 use Rattle.wire.specs.Test.{if}
 use Rattle.wire.specs.Cursors.{Inside, left}
-use Rattle.wire.specs.declared.Cursor.{Cursor}
 use Rattle.wire.proofs.LeftLaws.{left-most}
 use Rattle.b3d_spec.specs.declared.Counts.{Counts}
 use Rattle.b3d_spec.specs.declared.Tag.TheVariants.{MESH, KEYS}
@@ -24,13 +26,10 @@ use Rattle.b3d_read_item_rows.proofs.GroupLaws.{group-few}
 use Rattle.b3d_read_mesh_rows.specs.Meshes.{mesh_cells, MeshPut}
 use Rattle.b3d_read_mesh_rows.specs.declared.Added.{Added}
 use Rattle.b3d_rows_positions.specs.FindChunk.{ChunkFound, ChunkFinds}
-use Rattle.b3d_rows_positions.specs.declared.FoundChunk.{FoundChunk}
-use Rattle.b3d_rows_positions.specs.declared.FoundChunk.TheVariants as met
 use Rattle.b3d_rows_positions.proofs.FindChunkLaws.{chunk-none, chunk-at}
 use Rattle.b3d_read_meshes.proofs.TableLaws.{meshes}
 use Rattle.b3d_read_animation.proofs.TableLaws.{lists}
 use Rattle.b3d_rows_positions.specs.declared.Position.{Position}
-use Rattle.b3d_rows_positions.specs.declared.NextPosition.TheVariants as more
 use Rattle.b3d_rows_positions.proofs.PositionLaws.{owns-only}
 use Rattle.b3d_rows_positions.proofs.CountLaws.{mesh-alike, list-alike}
 use Rattle.b3d_rows_chunks.specs.NextChunk.{chunks_ahead, ChunkPosition, ChunkNexts}
@@ -56,29 +55,29 @@ module _ (s : List ℕ) (x : Position) (v : ChunkPosition s x) where
 
   -- ---- a mesh
 
-  module _ (r : FoundChunk) (m : ChunkFinds s x.at MESH x.counts.nodes r) where
-    pub mesh-none : r ≡ met.End → (row : List ℕ) → ChunkNexts 4 s x row row more.End
+  module _ (r : std.Option FoundChunk) (m : ChunkFinds s x.at MESH x.counts.nodes r) where
+    pub mesh-none : r ≡ None → (row : List ℕ) → ChunkNexts 4 s x row row None
     unfolding chunks_ahead
     mesh-none w row = record { is = record { none = (chunk-none s x.at MESH x.counts.nodes r m w).rows 4 (owns-only meshes) x.counts refl; same = refl } }
 
-    module _ (p : ℕ) (b : Cursor) (q nodes : ℕ) (w : r ≡ met.Chunk p b q nodes) where
-      mesh-at : ChunkFound s x.at MESH x.counts.nodes p b q nodes
-      mesh-at = chunk-at s x.at MESH x.counts.nodes r m p b q nodes w
+    module _ (f : FoundChunk) (w : r ≡ Some f) where
+      mesh-at : ChunkFound s x.at MESH x.counts.nodes f.at f.body f.next f.nodes
+      mesh-at = chunk-at s x.at MESH x.counts.nodes r m f w
 
-      pub mesh-body : BodyAt s p b
+      pub mesh-body : BodyAt s f.at f.body
       mesh-body = mesh-at.body
 
-      pub mesh-node : (node : ℕ) → node ≡ nodes - 1 → node < 0x100000000
+      pub mesh-node : (node : ℕ) → node ≡ f.nodes - 1 → node < 0x100000000
       mesh-node node e = omega (arith, mesh-at.few, mesh-at.behind, mesh-at.to, v.small)
 
-      module _ (node : ℕ) (en : node ≡ nodes - 1) (row put : List ℕ) (a : Added) (g : MeshPut s p b node x.counts.vertices x.counts.sets 0 row put a) where
-        past : b.end ≤ q
+      module _ (node : ℕ) (en : node ≡ f.nodes - 1) (row put : List ℕ) (a : Added) (g : MeshPut s f.at f.body node x.counts.vertices x.counts.sets 0 row put a) where
+        past : f.body.end ≤ f.next
         past = mesh-at.past tt
 
-        more-vertices : x.counts.vertices + a.vertices ≤ q
+        more-vertices : x.counts.vertices + a.vertices ≤ f.next
         more-vertices = omega (arith, v.vertices, mesh-at.since, mesh-at.body.head, mesh-at.body.room, past, g.few_vertices)
 
-        more-sets : x.counts.sets + a.sets ≤ q
+        more-sets : x.counts.sets + a.sets ≤ f.next
         more-sets = omega (arith, v.sets, mesh-at.since, mesh-at.body.head, mesh-at.body.room, past, g.few_sets)
 
         pub mesh-vertices : Fits w64 (x.counts.vertices + a.vertices)
@@ -89,7 +88,7 @@ module _ (s : List ℕ) (x : Position) (v : ChunkPosition s x) where
 
         abbrev after : Counts
         after = record {
-          nodes = nodes;
+          nodes = f.nodes;
           meshes = x.counts.meshes;
           vertices = x.counts.vertices + a.vertices;
           sets = x.counts.sets + a.sets;
@@ -99,7 +98,7 @@ module _ (s : List ℕ) (x : Position) (v : ChunkPosition s x) where
           keys = x.counts.keys;
         }
 
-        mesh-rows : flat_rows 4 x.counts (flat_at s x.at) ≡ mesh_cells node x.counts.vertices x.counts.sets (plain_mesh p (left b s)) ∷ flat_rows 4 after (flat_at s q)
+        mesh-rows : flat_rows 4 x.counts (flat_at s x.at) ≡ mesh_cells node x.counts.vertices x.counts.sets (plain_mesh f.at (left f.body s)) ∷ flat_rows 4 after (flat_at s f.next)
         unfolding with_meshes
         mesh-rows =
             let y = mesh-at.rows 4 (owns-only meshes) x.counts refl in
@@ -107,24 +106,24 @@ module _ (s : List ℕ) (x : Position) (v : ChunkPosition s x) where
             let e₁ : n.nodes - 1 ≡ node = omega (arith, y.later.nodes_are) in
             let e₂ : n.vertices ≡ x.counts.vertices = y.later.vertices tt in
             let e₃ : n.sets ≡ x.counts.sets = y.later.sets tt in
-            let c = plain_mesh p (left b s) in
+            let c = plain_mesh f.at (left f.body s) in
             let e : ◌≡◌ {A = List (List ℕ)} (mesh_cells (n.nodes - 1) n.vertices n.sets c ∷ []) (mesh_cells node x.counts.vertices x.counts.sets c ∷ []) = rw (e₁, e₂, e₃) in
             y.rows
-            ∙ ap₂ ◌++◌ (meshes.own MESH p (left b s) n tt ∙ e)
-            (mesh-alike (flat_at s q) (counted MESH p (left b s) n) after
+            ∙ ap₂ ◌++◌ (meshes.own MESH f.at (left f.body s) n tt ∙ e)
+            (mesh-alike (flat_at s f.next) (counted MESH f.at (left f.body s) n) after
             (record {
               nodes = y.later.nodes_are;
               vertices = ap₂ ◌+◌ e₂ (sym g.vertices_are);
               sets = ap₂ ◌+◌ e₃ (sym g.sets_are);
             }))
 
-        pub mesh-next : (y : Position) → y ≡ record { at = q; inner = x.inner; items = x.items; counts = after } → ChunkNexts 4 s x row put (more.At y)
+        pub mesh-next : (y : Position) → y ≡ record { at = f.next; inner = x.inner; items = x.items; counts = after } → ChunkNexts 4 s x row put (Some y)
         unfolding chunks_ahead width if mesh_cells
         mesh-next y ey =
-            subst (λ (z : Position). ChunkNexts 4 s x row put (more.At z)) (sym ey)
+            subst (λ (z : Position). ChunkNexts 4 s x row put (Some z)) (sym ey)
             (record {
               is = record {
-                comes = record { cells = mesh_cells node x.counts.vertices x.counts.sets (plain_mesh p (left b s)); is = mesh-rows; wide = refl; stores = g.stores };
+                comes = record { cells = mesh_cells node x.counts.vertices x.counts.sets (plain_mesh f.at (left f.body s)); is = mesh-rows; wide = refl; stores = g.stores };
                 position = record {
                   run = mesh-at.to;
                   small = v.small;
@@ -138,33 +137,33 @@ module _ (s : List ℕ) (x : Position) (v : ChunkPosition s x) where
 
   -- ---- a key list
 
-  module _ (r : FoundChunk) (m : ChunkFinds s x.at KEYS x.counts.nodes r) where
-    pub list-none : r ≡ met.End → (row : List ℕ) → ChunkNexts 9 s x row row more.End
+  module _ (r : std.Option FoundChunk) (m : ChunkFinds s x.at KEYS x.counts.nodes r) where
+    pub list-none : r ≡ None → (row : List ℕ) → ChunkNexts 9 s x row row None
     unfolding chunks_ahead
     list-none w row = record { is = record { none = (chunk-none s x.at KEYS x.counts.nodes r m w).rows 9 (owns-only lists) x.counts refl; same = refl } }
 
-    module _ (p : ℕ) (b : Cursor) (q nodes : ℕ) (w : r ≡ met.Chunk p b q nodes) where
-      list_at : ChunkFound s x.at KEYS x.counts.nodes p b q nodes
-      list_at = chunk-at s x.at KEYS x.counts.nodes r m p b q nodes w
+    module _ (f : FoundChunk) (w : r ≡ Some f) where
+      list_at : ChunkFound s x.at KEYS x.counts.nodes f.at f.body f.next f.nodes
+      list_at = chunk-at s x.at KEYS x.counts.nodes r m f w
 
-      pub list-body : Inside b (length s)
-      list-body = mesh-inside s p b list_at.body
+      pub list-body : Inside f.body (length s)
+      list-body = mesh-inside s f.at f.body list_at.body
 
-      pub list-node : (node : ℕ) → node ≡ nodes - 1 → node < 0x100000000
+      pub list-node : (node : ℕ) → node ≡ f.nodes - 1 → node < 0x100000000
       list-node node e = omega (arith, list_at.few, list_at.behind, list_at.to, v.small)
 
-      module _ (n : ℕ) (en : n ≡ length (plain_keys (left b s)).items) where
-        more-keys : x.counts.keys + n ≤ q
+      module _ (n : ℕ) (en : n ≡ length (plain_keys (left f.body s)).items) where
+        more-keys : x.counts.keys + n ≤ f.next
         more-keys =
-            let k : b.end ≤ q = list_at.past tt in
-            omega (arith, v.keys, list_at.since, list_at.body.head, list_at.body.room, group-few true (left b s), left-most s b)
+            let k : f.body.end ≤ f.next = list_at.past tt in
+            omega (arith, v.keys, list_at.since, list_at.body.head, list_at.body.room, group-few true (left f.body s), left-most s f.body)
 
         pub list-keys : Fits w64 (x.counts.keys + n)
         list-keys = record { fits = omega (arith, more-keys, list_at.to, v.small) }
 
         abbrev listed : Counts
         listed = record {
-          nodes = nodes;
+          nodes = f.nodes;
           meshes = x.counts.meshes;
           vertices = x.counts.vertices;
           sets = x.counts.sets;
@@ -174,28 +173,28 @@ module _ (s : List ℕ) (x : Position) (v : ChunkPosition s x) where
           keys = x.counts.keys + n;
         }
 
-        module _ (node : ℕ) (ei : node ≡ nodes - 1) where
-          list-rows : flat_rows 9 x.counts (flat_at s x.at) ≡ list_row node x.counts.keys (plain_keys (left b s)) ∷ flat_rows 9 listed (flat_at s q)
+        module _ (node : ℕ) (ei : node ≡ f.nodes - 1) where
+          list-rows : flat_rows 9 x.counts (flat_at s x.at) ≡ list_row node x.counts.keys (plain_keys (left f.body s)) ∷ flat_rows 9 listed (flat_at s f.next)
           unfolding add_keys
           list-rows =
               let y = list_at.rows 9 (owns-only lists) x.counts refl in
               let i = y.counts in
               let e₁ : i.nodes - 1 ≡ node = omega (arith, y.later.nodes_are) in
               let e₂ : i.keys ≡ x.counts.keys = y.later.keys tt in
-              let c = plain_keys (left b s) in
+              let c = plain_keys (left f.body s) in
               let e : ◌≡◌ {A = List (List ℕ)} (list_row (i.nodes - 1) i.keys c ∷ []) (list_row node x.counts.keys c ∷ []) = rw (e₁, e₂) in
               y.rows
-              ∙ ap₂ ◌++◌ (lists.own KEYS p (left b s) i tt ∙ e)
-              (list-alike (flat_at s q) (counted KEYS p (left b s) i) listed (record { nodes = y.later.nodes_are; keys = ap₂ ◌+◌ e₂ (sym en) }))
+              ∙ ap₂ ◌++◌ (lists.own KEYS f.at (left f.body s) i tt ∙ e)
+              (list-alike (flat_at s f.next) (counted KEYS f.at (left f.body s) i) listed (record { nodes = y.later.nodes_are; keys = ap₂ ◌+◌ e₂ (sym en) }))
 
-          pub list-next : (row put : List ℕ) → put ≡ stored row 0 (list_row node x.counts.keys (plain_keys (left b s)))
-              → (y : Position) → y ≡ record { at = q; inner = x.inner; items = x.items; counts = listed } → ChunkNexts 9 s x row put (more.At y)
+          pub list-next : (row put : List ℕ) → put ≡ stored row 0 (list_row node x.counts.keys (plain_keys (left f.body s)))
+              → (y : Position) → y ≡ record { at = f.next; inner = x.inner; items = x.items; counts = listed } → ChunkNexts 9 s x row put (Some y)
           unfolding chunks_ahead width if list_row
           list-next row put e y ey =
-              subst (λ (z : Position). ChunkNexts 9 s x row put (more.At z)) (sym ey)
+              subst (λ (z : Position). ChunkNexts 9 s x row put (Some z)) (sym ey)
               (record {
                 is = record {
-                  comes = record { cells = list_row node x.counts.keys (plain_keys (left b s)); is = list-rows; wide = refl; stores = e };
+                  comes = record { cells = list_row node x.counts.keys (plain_keys (left f.body s)); is = list-rows; wide = refl; stores = e };
                   position = record {
                     run = list_at.to;
                     small = v.small;

@@ -1,4 +1,7 @@
 -- The next triangle set: a law for each need.
+use Rattle.std.specs.Prelude.{Some, None}
+use Rattle.std.specs.Prelude as std
+use Rattle.b3d_chunk_walk.specs.declared.Sought.{Sought}
 use mathlib.Core.Path.{◌≡◌, refl, ap, ap₂, sym, subst, ◌∙◌}
 use Prim.Native.Nat.{ℕ, ◌+◌, ◌-◌, ◌<◌}
 use native.Mathlib.Omega.{arith}
@@ -10,7 +13,6 @@ use lib.ListN.{length, length-append}
 use lib.Seq.{sets as stored}
 use Rattle.wire.specs.Test.{if}
 use Rattle.wire.specs.Cursors.{Inside, left}
-use Rattle.wire.specs.declared.Cursor.{Cursor}
 use Rattle.wire.proofs.LeftLaws.{left-most}
 use Rattle.b3d_spec.specs.declared.Tag.TheVariants.{MESH, TRIS}
 use Rattle.b3d_spec.specs.Tables.{width, with_meshes, set_rows, triangle_rows}
@@ -18,8 +20,6 @@ use Rattle.b3d_spec_plain_rows.specs.Flat.{flat_at}
 use Rattle.b3d_spec_plain_rows.specs.Plain.{plain_mesh, mesh_of, plain_triangles, sets_of}
 use Rattle.b3d_spec_plain_rows.specs.Rows.{counted, flat_rows}
 use Rattle.b3d_chunk_walk.specs.Seeks.{ahead, inner, Seeks}
-use Rattle.b3d_chunk_walk.specs.declared.Sought.{Sought}
-use Rattle.b3d_chunk_walk.specs.declared.Sought.TheVariants as sought
 use Rattle.b3d_chunk_walk.proofs.SeekLaws.{sought_among, sought_body, sought_next}
 use Rattle.b3d_chunk_walk.proofs.MeshLaws.{no-set, one_set}
 use Rattle.b3d_read_item_rows.specs.Items.{set_row}
@@ -28,14 +28,10 @@ use Rattle.b3d_read_triangle_rows.specs.Sets.{sets_in}
 use Rattle.b3d_read_meshes.proofs.TableLaws.{sets}
 use Rattle.b3d_rows_positions.specs.Positions.{left_over, MeshPosition, MeshOpened, MeshMore, MeshOpens}
 use Rattle.b3d_rows_positions.specs.declared.Position.{Position}
-use Rattle.b3d_rows_positions.specs.declared.NextPosition.{NextPosition}
-use Rattle.b3d_rows_positions.specs.declared.NextPosition.TheVariants as more
 use Rattle.b3d_rows_positions.proofs.PositionLaws.{owns-only}
 use Rattle.b3d_rows_positions.proofs.CountLaws.{set-alike}
 use Rattle.b3d_rows_chunks.specs.NextChunk.{triangles_left, behind_sets, sets_ahead, SetPosition, with_triangles, SetFound, NoSet, SetFoundIs, SetFinds, SetNexts}
 use Rattle.b3d_rows_chunks.specs.declared.FoundSet.{FoundSet}
-use Rattle.b3d_rows_chunks.specs.declared.NextSet.{NextSet}
-use Rattle.b3d_rows_chunks.specs.declared.NextSet.TheVariants as met
 
 -- the sets from y on are those from x on
 pub record FindLeft (s : List ℕ) (x y : Position) : Type 0 where
@@ -57,8 +53,8 @@ module _ (s : List ℕ) (x : Position) where
     pub find-walk : MeshPosition s y
     find-walk = v.position.walk
 
-    module _ (r : Sought) (u : Seeks s y.inner TRIS r) where
-      module _ (w : r ≡ sought.Nothing) where
+    module _ (r : std.Option Sought) (u : Seeks s y.inner TRIS r) where
+      module _ (w : r ≡ None) where
         none : sets_of (ahead s y.inner) ≡ []
         none = no-set s y.inner r u w
 
@@ -70,14 +66,14 @@ module _ (s : List ℕ) (x : Position) where
         unfolding sets_ahead set_rows
         only-later = ap (λ l. set_rows (y.counts.meshes - 1) y.counts.triangles l ++ flat_rows 6 (behind_sets s y) (flat_at s y.at)) none
 
-        module _ (a : NextPosition) (o : MeshOpens s y a) where
-          pub find_none : a ≡ more.End → SetFinds s x met.End
+        module _ (a : std.Option Position) (o : MeshOpens s y a) where
+          pub find_none : a ≡ None → SetFinds s x None
           unfolding behind_sets
           find_none e =
               let d = subst (MeshMore s y) e o.is in
               record { is = record { rows = v.rows ∙ only-later ∙ d.rows 6 (owns-only sets) (behind_sets s y) refl } }
 
-          module _ (z : Position) (e : a ≡ more.At z) where
+          module _ (z : Position) (e : a ≡ Some z) where
             opened : MeshOpened s y z
             opened = subst (MeshMore s y) e o.is
 
@@ -113,25 +109,25 @@ module _ (s : List ℕ) (x : Position) where
               };
             }
 
-      module _ (p : ℕ) (b n : Cursor) (w : r ≡ sought.Found p b n) where
-        pub find_there : (f : FoundSet) → f ≡ record { body = b; position = record { at = y.at; inner = n; items = y.items; counts = y.counts } } → SetFinds s x (met.At f)
+      module _ (d : Sought) (w : r ≡ Some d) where
+        pub find_there : (f : FoundSet) → f ≡ record { body = d.body; position = record { at = y.at; inner = d.next; items = y.items; counts = y.counts } } → SetFinds s x (Some f)
         unfolding sets_ahead set_rows set_row behind_sets triangle_rows
         find_there f ef =
-            let c = one_set s y.inner r u p b n w in
-            let t = plain_triangles (left b s) in
+            let c = one_set s y.inner r u d w in
+            let t = plain_triangles (left d.body s) in
             let k = length t.triangles in
-            let g = sought_among s y.inner TRIS r u p b n w in
-            let q : y.counts.triangles + length (triangle_rows (sets_of (ahead s y.inner))) ≡ y.counts.triangles + k + length (triangle_rows (sets_of (ahead s n))) =
-            ap (λ l. y.counts.triangles + length (triangle_rows l)) c ∙ omega (arith, length-append t.triangles (triangle_rows (sets_of (ahead s n)))) in
-            subst (λ (h : FoundSet). SetFinds s x (met.At h)) (sym ef)
+            let g = sought_among s y.inner TRIS r u d w in
+            let q : y.counts.triangles + length (triangle_rows (sets_of (ahead s y.inner))) ≡ y.counts.triangles + k + length (triangle_rows (sets_of (ahead s d.next))) =
+            ap (λ l. y.counts.triangles + length (triangle_rows l)) c ∙ omega (arith, length-append t.triangles (triangle_rows (sets_of (ahead s d.next)))) in
+            subst (λ (h : FoundSet). SetFinds s x (Some h)) (sym ef)
             (record {
               is = record {
                 rows = v.rows ∙ rw (q, c);
-                inside = sought_body s y.inner TRIS r u p b n w (length s) v.position.walk.inside;
-                walk = record { run = v.position.walk.run; inside = sought_next s y.inner TRIS r u p b n w (length s) v.position.walk.inside; nodes = v.position.walk.nodes; meshes = v.position.walk.meshes };
+                inside = sought_body s y.inner TRIS r u d w (length s) v.position.walk.inside;
+                walk = record { run = v.position.walk.run; inside = sought_next s y.inner TRIS r u d w (length s) v.position.walk.inside; nodes = v.position.walk.nodes; meshes = v.position.walk.meshes };
                 small = v.position.small;
                 before = omega (arith, g.same, v.position.before);
-                triangles = omega (arith, group-few false (left b s), left-most s b, v.position.triangles, g.from, g.body, g.room, g.after);
+                triangles = omega (arith, group-few false (left d.body s), left-most s d.body, v.position.triangles, g.from, g.body, g.room, g.after);
               };
             })
 
@@ -139,10 +135,10 @@ pub ruleset find_laws = (find_start, find-inside, find-walk, find_none, find_les
 
 -- ---- the row
 
-pub set-none : (s : List ℕ) (x : Position) (a : NextSet) → SetFinds s x a → a ≡ met.End → (row : List ℕ) → SetNexts s x row row more.End
+pub set-none : (s : List ℕ) (x : Position) (a : std.Option FoundSet) → SetFinds s x a → a ≡ None → (row : List ℕ) → SetNexts s x row row None
 set-none s x a u w row = let e : NoSet s x = subst (SetFoundIs s x) w u.is in record { is = record { none = e.rows; same = refl } }
 
-module _ (s : List ℕ) (x : Position) (a : NextSet) (u : SetFinds s x a) (r : FoundSet) (w : a ≡ met.At r) where
+module _ (s : List ℕ) (x : Position) (a : std.Option FoundSet) (u : SetFinds s x a) (r : FoundSet) (w : a ≡ Some r) where
   v : SetFound s x r
   v = subst (SetFoundIs s x) w u.is
 
@@ -163,10 +159,10 @@ module _ (s : List ℕ) (x : Position) (a : NextSet) (u : SetFinds s x a) (r : F
     set_sum = record { fits = omega (arith, v.triangles, v.walk.inside.before, v.walk.inside.within, v.small) }
 
     pub set_next : (mesh : ℕ) → mesh ≡ r.position.counts.meshes - 1 → (row put : List ℕ) → put ≡ stored row 0 (set_row mesh r.position.counts.triangles (plain_triangles (left r.body s)))
-        → (y : Position) → y ≡ with_triangles n r.position → SetNexts s x row put (more.At y)
+        → (y : Position) → y ≡ with_triangles n r.position → SetNexts s x row put (Some y)
     unfolding width if set_row
     set_next mesh em row put e y ey =
-        subst (λ (z : Position). SetNexts s x row put (more.At z)) (sym (ey ∙ ap (λ (i : ℕ). with_triangles i r.position) en))
+        subst (λ (z : Position). SetNexts s x row put (Some z)) (sym (ey ∙ ap (λ (i : ℕ). with_triangles i r.position) en))
         (record {
           is = record {
             comes = record { cells = set_row (r.position.counts.meshes - 1) r.position.counts.triangles (plain_triangles (left r.body s)); is = v.rows; wide = refl; stores = rw em at e };

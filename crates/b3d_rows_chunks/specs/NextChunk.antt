@@ -1,5 +1,6 @@
 -- Rows that are still to come of tables that have a row for a chunk: meshes and key lists, and the triangle sets of each MESH.
-use Rattle.std.specs.Prelude.{◌≡◌, ℕ, ◌+◌, ◌-◌, ◌<◌, ◌≤◌, List, [], ◌∷◌, ◌++◌, length}
+use Rattle.std.specs.Prelude as std
+use Rattle.std.specs.Prelude.{◌≡◌, ℕ, ◌+◌, ◌-◌, ◌<◌, ◌≤◌, List, [], ◌∷◌, ◌++◌, length, Some, None}
 use Rattle.wire.specs.Cursors.{Inside, left}
 use Rattle.b3d_spec.specs.declared.Counts.{Counts}
 use Rattle.b3d_spec.specs.Tables.{set_rows, triangle_rows}
@@ -10,11 +11,7 @@ use Rattle.b3d_chunk_walk.specs.Seeks.{ahead}
 use Rattle.b3d_read_item_rows.specs.Items.{set_row}
 use Rattle.b3d_rows_positions.specs.Positions.{MeshPosition, Comes, NoRow}
 use Rattle.b3d_rows_positions.specs.declared.Position.{Position}
-use Rattle.b3d_rows_positions.specs.declared.NextPosition.{NextPosition}
-use Rattle.b3d_rows_positions.specs.declared.NextPosition.TheVariants as more
 use Rattle.b3d_rows_chunks.specs.declared.FoundSet.{FoundSet}
-use Rattle.b3d_rows_chunks.specs.declared.NextSet.{NextSet}
-use Rattle.b3d_rows_chunks.specs.declared.NextSet.TheVariants as met
 
 -- ---- tables 4 and 9
 
@@ -43,12 +40,12 @@ pub record ChunkNext (k : ℕ) (s : List ℕ) (x : Position) (row put : List ℕ
   -- the position behind it is one in the table
   pub position : ChunkPosition s y
 
-abbrev pub ChunkNextIs : ℕ → List ℕ → Position → List ℕ → List ℕ → NextPosition → Type 0
-ChunkNextIs k s x row put (more.At y) = ChunkNext k s x row put y
-ChunkNextIs k s x row put more.End = NoRow (chunks_ahead k s x) row put
+abbrev pub ChunkNextIs : ℕ → List ℕ → Position → List ℕ → List ℕ → std.Option Position → Type 0
+ChunkNextIs k s x row put (Some y) = ChunkNext k s x row put y
+ChunkNextIs k s x row put None = NoRow (chunks_ahead k s x) row put
 
 -- what `next_mesh` and `next_list` do
-pub record ChunkNexts (k : ℕ) (s : List ℕ) (x : Position) (row put : List ℕ) (r : NextPosition) : Type 0 where
+pub record ChunkNexts (k : ℕ) (s : List ℕ) (x : Position) (row put : List ℕ) (r : std.Option Position) : Type 0 where
   -- by the case of the answer
   pub is : ChunkNextIs k s x row put r
 
@@ -126,12 +123,12 @@ pub record NoSet (s : List ℕ) (x : Position) : Type 0 where
   -- none is to come
   pub rows : sets_ahead s x ≡ []
 
-abbrev pub SetFoundIs : List ℕ → Position → NextSet → Type 0
-SetFoundIs s x (met.At f) = SetFound s x f
-SetFoundIs s x met.End = NoSet s x
+abbrev pub SetFoundIs : List ℕ → Position → std.Option FoundSet → Type 0
+SetFoundIs s x (Some f) = SetFound s x f
+SetFoundIs s x None = NoSet s x
 
 -- what `find_set` returns
-pub record SetFinds (s : List ℕ) (x : Position) (r : NextSet) : Type 0 where
+pub record SetFinds (s : List ℕ) (x : Position) (r : std.Option FoundSet) : Type 0 where
   -- by the case of the answer
   pub is : SetFoundIs s x r
 
@@ -142,11 +139,11 @@ pub record SetNext (s : List ℕ) (x : Position) (row put : List ℕ) (y : Posit
   -- the position behind it is one in table 6
   pub position : SetPosition s y
 
-abbrev pub SetNextIs : List ℕ → Position → List ℕ → List ℕ → NextPosition → Type 0
-SetNextIs s x row put (more.At y) = SetNext s x row put y
-SetNextIs s x row put more.End = NoRow (sets_ahead s x) row put
+abbrev pub SetNextIs : List ℕ → Position → List ℕ → List ℕ → std.Option Position → Type 0
+SetNextIs s x row put (Some y) = SetNext s x row put y
+SetNextIs s x row put None = NoRow (sets_ahead s x) row put
 
 -- what `next_set` does
-pub record SetNexts (s : List ℕ) (x : Position) (row put : List ℕ) (r : NextPosition) : Type 0 where
+pub record SetNexts (s : List ℕ) (x : Position) (row put : List ℕ) (r : std.Option Position) : Type 0 where
   -- by the case of the answer
   pub is : SetNextIs s x row put r

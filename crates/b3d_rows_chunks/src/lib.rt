@@ -5,32 +5,23 @@ ghost use Rattle.std.specs.Prelude.{◌≤◌, length};
 ghost use Rattle.b3d_spec.specs.Tables.{vertex_width};
 ghost use Rattle.b3d_rows_chunks.specs.NextChunk.{ChunkPosition, ChunkNexts, SetPosition, SetFinds, SetNexts};
 
-use b3d_chunk_walk::Sought;
-use b3d_rows_positions::{FoundChunk, NextPosition, Position};
+use b3d_rows_positions::Position;
 use b3d_spec::Tag;
 use wire::Cursor;
 
 // Writes the next row of table 4 into the start of `row` and returns the position behind it. The cells behind the row stay. Where no row is to come, `row`
-// stays, and the answer is `End`.
-pub fn next_mesh(file: &[u8], x: Position, row: &mut [u32]) -> NextPosition
+// stays, and the answer is `None`.
+pub fn next_mesh(file: &[u8], x: Position, row: &mut [u32]) -> Option<Position>
     requires { ChunkPosition file.now x × (vertex_width ≤ length row.old) }
     ensures { ChunkNexts 4 file.now x row.old row.new result }
 {
     let mut counts = x.counts;
-    let FoundChunk::Chunk {
-        at: p,
-        body,
-        next,
-        nodes,
-    } = b3d_rows_positions::find_chunk(file, x.at, Tag::MESH, counts.nodes)
-    else {
-        return NextPosition::End;
-    };
-    let node = b3d_chunk_walk::current(nodes);
+    let chunk = b3d_rows_positions::find_chunk(file, x.at, Tag::MESH, counts.nodes)?;
+    let node = b3d_chunk_walk::current(chunk.nodes);
     let more = b3d_read_mesh_rows::store_mesh(
         file,
-        p,
-        body,
+        chunk.at,
+        chunk.body,
         node,
         counts.vertices,
         counts.sets,
@@ -39,13 +30,13 @@ pub fn next_mesh(file: &[u8], x: Position, row: &mut [u32]) -> NextPosition
     );
     let vertices = counts.vertices + more.vertices;
     let sets = counts.sets + more.sets;
-    counts.nodes = nodes;
+    counts.nodes = chunk.nodes;
     counts.vertices = vertices;
     counts.sets = sets;
     let inner = x.inner;
     let items = x.items;
-    NextPosition::At(Position {
-        at: next,
+    Some(Position {
+        at: chunk.next,
         inner,
         items,
         counts,
@@ -53,29 +44,21 @@ pub fn next_mesh(file: &[u8], x: Position, row: &mut [u32]) -> NextPosition
 }
 
 // Writes the next row of table 9 into the start of `row` and returns the position behind it. The cells behind the row stay. Where no row is to come, `row`
-// stays, and the answer is `End`.
-pub fn next_list(file: &[u8], x: Position, row: &mut [u32]) -> NextPosition
+// stays, and the answer is `None`.
+pub fn next_list(file: &[u8], x: Position, row: &mut [u32]) -> Option<Position>
     requires { ChunkPosition file.now x × (vertex_width ≤ length row.old) }
     ensures { ChunkNexts 9 file.now x row.old row.new result }
 {
     let mut counts = x.counts;
-    let FoundChunk::Chunk {
-        body,
-        next,
-        nodes,
-        ..
-    } = b3d_rows_positions::find_chunk(file, x.at, Tag::KEYS, counts.nodes)
-    else {
-        return NextPosition::End;
-    };
-    let node = b3d_chunk_walk::current(nodes);
-    let n = b3d_read_item_rows::store_group(file, body, true, node, counts.keys, 0, row);
-    counts.nodes = nodes;
+    let chunk = b3d_rows_positions::find_chunk(file, x.at, Tag::KEYS, counts.nodes)?;
+    let node = b3d_chunk_walk::current(chunk.nodes);
+    let n = b3d_read_item_rows::store_group(file, chunk.body, true, node, counts.keys, 0, row);
+    counts.nodes = chunk.nodes;
     counts.keys = counts.keys + n;
     let inner = x.inner;
     let items = x.items;
-    NextPosition::At(Position {
-        at: next,
+    Some(Position {
+        at: chunk.next,
         inner,
         items,
         counts,
@@ -89,58 +72,38 @@ pub struct FoundSet {
     pub position: Position,
 }
 
-// The next TRIS, or `End` where none is to come.
-#[derive(Clone, Copy)]
-pub enum NextSet {
-    At(FoundSet),
-    End,
-}
-
-// Returns the first TRIS from `from` on, `End` where none is to come.
-fn find_set(file: &[u8], from: Position) -> NextSet
+// Returns the first TRIS from `from` on, `None` where none is to come.
+fn find_set(file: &[u8], from: Position) -> Option<FoundSet>
     requires { SetPosition file.now from }
     ensures { SetFinds file.now from result }
 {
     let mut x = from;
     loop {
         let c = x.inner;
-        match b3d_chunk_walk::seek(file, c, Tag::TRIS) {
-            Sought::Found {
-                body,
-                next: inner,
-                ..
-            } => {
-                let items = x.items;
-                let counts = x.counts;
-                return NextSet::At(FoundSet {
-                    body,
-                    position: Position {
-                        at: x.at,
-                        inner,
-                        items,
-                        counts,
-                    },
-                });
-            }
-            Sought::Nothing => {
-                let NextPosition::At(y) = b3d_rows_positions::open_mesh(file, x) else {
-                    return NextSet::End;
-                };
-                x = y;
-            }
+        if let Some(set) = b3d_chunk_walk::seek(file, c, Tag::TRIS) {
+            let items = x.items;
+            let counts = x.counts;
+            return Some(FoundSet {
+                body: set.body,
+                position: Position {
+                    at: x.at,
+                    inner: set.next,
+                    items,
+                    counts,
+                },
+            });
         }
+        x = b3d_rows_positions::open_mesh(file, x)?;
     }
 }
 
 // Writes the next row of table 6 into the start of `row` and returns the position behind it. The cells behind the row stay. Where no row is to come, `row`
-// stays, and the answer is `End`.
-pub fn next_set(file: &[u8], x: Position, row: &mut [u32]) -> NextPosition
+// stays, and the answer is `None`.
+pub fn next_set(file: &[u8], x: Position, row: &mut [u32]) -> Option<Position>
     requires { SetPosition file.now x × (vertex_width ≤ length row.old) }
     ensures { SetNexts file.now x row.old row.new result }
 {
-    let NextSet::At(set) = find_set(file, x) else {
-        return NextPosition::End;
-    };
+    let set = find_set(file, x)?;
     let position = set.position;
     let mut counts = position.counts;
     let mesh = b3d_chunk_walk::current(counts.meshes);
@@ -148,7 +111,7 @@ pub fn next_set(file: &[u8], x: Position, row: &mut [u32]) -> NextPosition
     counts.triangles = counts.triangles + n;
     let inner = position.inner;
     let items = position.items;
-    NextPosition::At(Position {
+    Some(Position {
         at: position.at,
         inner,
         items,

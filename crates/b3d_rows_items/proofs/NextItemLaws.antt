@@ -1,4 +1,6 @@
 -- From item to item: a law for each need.
+use Rattle.std.specs.Prelude.{Some, None}
+use Rattle.std.specs.Prelude as std
 use mathlib.Core.Path.{◌≡◌, refl, ap, sym, subst, ◌∙◌}
 use Prim.Native.Nat.{ℕ, ◌+◌, ◌-◌, ◌*◌, ◌<◌, ◌≤◌}
 use native.Mathlib.Omega.{arith}
@@ -11,17 +13,15 @@ use Rattle.wire.specs.Cursors.{Inside, left}
 use Rattle.wire.proofs.LeftLaws.{span}
 use Rattle.layout.specs.Parts.{words_of}
 use Rattle.b3d_rows_open_items.specs.ItemsLeft.{ItemTable, item_row, item_rows, Measured}
-use Rattle.b3d_rows_open_items.proofs.ItemsLeftLaws.{items-none, items-one, item-wide, onward, onward-measured}
+use Rattle.b3d_rows_open_items.proofs.ItemsLeftLaws.{items-none, items-one, item-wide, onward-measured}
 use Rattle.b3d_rows_positions.specs.Positions.{items_later, items_ahead, left_over, ItemPosition, ItemsOn, NoItems, ItemsMoreIs, ItemsMore, ItemFound, NoItemFound, ItemFoundIs, ItemFinds}
 use Rattle.b3d_rows_positions.specs.declared.Position.{Position}
-use Rattle.b3d_rows_positions.specs.declared.NextPosition.{NextPosition}
-use Rattle.b3d_rows_positions.specs.declared.NextPosition.TheVariants as more
 use Rattle.b3d_rows_items.specs.NextItem.{ItemNexts}
 
 pub seven : (k : ℕ) (s : List ℕ) (x : Position) → k ≡ 7 → ItemPosition k s x → ItemPosition 7 s x
 seven k s x e v = rw e at v
 
-pub seven_more : (k : ℕ) (s : List ℕ) (x : Position) (r : NextPosition) → k ≡ 7 → ItemsMore 7 s x r → ItemsMore k s x r
+pub seven_more : (k : ℕ) (s : List ℕ) (x : Position) (r : std.Option Position) → k ≡ 7 → ItemsMore 7 s x r → ItemsMore k s x r
 seven_more k s x r e v = rw e v
 
 pub ruleset more_laws = (seven, seven_more)
@@ -47,10 +47,10 @@ module _ (k : ℕ) (s : List ℕ) (x : Position) where
     pub find_fits : Fits w64 (4 * y.items.words)
     find_fits = record { fits = omega (arith, v.position.measured.most) }
 
-    pub find_there : 4 * y.items.words ≤ y.items.rest.end - y.items.rest.at → ItemFinds k s x (more.At y)
+    pub find_there : 4 * y.items.words ≤ y.items.rest.end - y.items.rest.at → ItemFinds k s x (Some y)
     find_there h = record { is = record { rows = v.rows; position = v.position; there = h } }
 
-    module _ (h : y.items.rest.end - y.items.rest.at < 4 * y.items.words) (r : NextPosition) (m : ItemsMore k s y r) where
+    module _ (h : y.items.rest.end - y.items.rest.at < 4 * y.items.words) (r : std.Option Position) (m : ItemsMore k s y r) where
       none : item_rows k s y.items ≡ []
       none = items-none k s y.items v.position.items h
 
@@ -58,12 +58,12 @@ module _ (k : ℕ) (s : List ℕ) (x : Position) where
       unfolding items_ahead
       behind = ap (λ l. l ++ items_later k s y) none
 
-      pub find_none : r ≡ more.End → ItemFinds k s x more.End
+      pub find_none : r ≡ None → ItemFinds k s x None
       find_none w =
           let e : NoItems k s y = subst (ItemsMoreIs k s y) w m.is in
           record { is = record { rows = v.rows ∙ behind ∙ e.rows } }
 
-      module _ (z : Position) (w : r ≡ more.At z) where
+      module _ (z : Position) (w : r ≡ Some z) where
         on : ItemsOn k s y z
         on = subst (ItemsMoreIs k s y) w m.is
 
@@ -77,10 +77,10 @@ pub ruleset find_laws = (find_start, find_position, find_before, find_fits, find
 
 -- ---- the row
 
-pub row-none : (k : ℕ) (s : List ℕ) (x : Position) (r : NextPosition) → ItemFinds k s x r → r ≡ more.End → (row : List ℕ) → ItemNexts k s x row row more.End
+pub row-none : (k : ℕ) (s : List ℕ) (x : Position) (r : std.Option Position) → ItemFinds k s x r → r ≡ None → (row : List ℕ) → ItemNexts k s x row row None
 row-none k s x r u w row = let e : NoItemFound k s x = subst (ItemFoundIs k s x) w u.is in record { is = record { none = e.rows; same = refl } }
 
-module _ (k : ℕ) (t : ItemTable k) (s : List ℕ) (x : Position) (r : NextPosition) (u : ItemFinds k s x r) (y : Position) (w : r ≡ more.At y) where
+module _ (k : ℕ) (t : ItemTable k) (s : List ℕ) (x : Position) (r : std.Option Position) (u : ItemFinds k s x r) (y : Position) (w : r ≡ Some y) where
   v : ItemFound k s x y
   v = subst (ItemFoundIs k s x) w u.is
 
@@ -106,13 +106,13 @@ module _ (k : ℕ) (t : ItemTable k) (s : List ℕ) (x : Position) (r : NextPosi
         items = record { rest = span (y.items.rest.at + 4 * y.items.words) y.items.rest.end; words = y.items.words; flags = y.items.flags; sets = y.items.sets; size = y.items.size };
         counts = y.counts;
       }
-      → ItemNexts k s x row put (more.At z)
+      → ItemNexts k s x row put (Some z)
   unfolding items_ahead items_later
   row_next row put e z ez =
       let i = y.items in
       let c = v.position.items in
       let m = v.position.measured in
-      subst (λ (n : Position). ItemNexts k s x row put (more.At n)) (sym ez)
+      subst (λ (n : Position). ItemNexts k s x row put (Some n)) (sym ez)
       (record {
         is = record {
           comes = record {

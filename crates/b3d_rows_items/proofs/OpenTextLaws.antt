@@ -1,12 +1,14 @@
 -- The texts of a file: a law for each need.
+use Rattle.std.specs.Prelude.{Some, None}
+use Rattle.std.specs.Prelude as std
+use Rattle.b3d_chunk_walk.specs.declared.Sought.{Sought}
 use mathlib.Core.Path.{◌≡◌, refl, ap, sym, ◌∙◌}
 use Prim.Native.Nat.{ℕ, ◌+◌, ◌-◌, ◌<◌, ◌≤◌}
 use native.Mathlib.Omega.{arith}
 use mathlib.Core.List.{List, []}
 use lib.ListN.{length}
 use Rattle.wire.specs.Test.{if}
-use Rattle.wire.specs.Cursors.{Inside, left}
-use Rattle.wire.specs.declared.Cursor.{Cursor}
+use Rattle.wire.specs.Cursors.{Inside}
 use Rattle.wire.proofs.LeftLaws.{span, left-nil}
 use Rattle.b3d_spec.specs.declared.Tag.TheVariants.{TEXS, BRUS}
 use Rattle.b3d_spec.specs.Tables.{width}
@@ -14,8 +16,6 @@ use Rattle.b3d_spec_plain_rows.specs.Plain.{named_in, named_items}
 use Rattle.b3d_spec_plain_rows.specs.Rows.{texture_rows, brush_rows}
 use Rattle.b3d_chunk_walk.specs.Seeks.{FirstWord}
 use Rattle.b3d_chunk_walk.specs.declared.Headed.{Headed}
-use Rattle.b3d_chunk_walk.specs.declared.Sought.{Sought}
-use Rattle.b3d_chunk_walk.specs.declared.Sought.TheVariants as sought
 use Rattle.b3d_chunk_walk.proofs.FirstWordLaws.{word-inside}
 use Rattle.b3d_read_materials.specs.Texts.{FirstIs}
 use Rattle.b3d_read_materials.proofs.MaterialLaws.{file-one, file_two, first-none, no-brushes, rows_are, head-is, texts_are, textures-body, brushes-body, brushes-rest}
@@ -26,9 +26,9 @@ none_rows : (s : List ℕ) (e free : ℕ) → text_rows s (record { rest = span 
 unfolding text_rows named_items named_in
 none_rows s e free = rw (left-nil s (span e e) (omega arith))
 
-module _ (s : List ℕ) (r : Sought) where
+module _ (s : List ℕ) (r : std.Option Sought) where
   module _ (x : FirstIs s TEXS r) where
-    pub textures-none : r ≡ sought.Nothing → (i : OpenItems) → i ≡ record { rest = span (length s) (length s); words = 7; flags = 0; sets = 0; size = 0 } → TextsOpen 1 s i
+    pub textures-none : r ≡ None → (i : OpenItems) → i ≡ record { rest = span (length s) (length s); words = 7; flags = 0; sets = 0; size = 0 } → TextsOpen 1 s i
     unfolding width if
     textures-none w i e =
         rw e
@@ -37,17 +37,17 @@ module _ (s : List ℕ) (r : Sought) where
           at = record { inside = record { before = omega arith; within = omega arith }; words = omega arith; wide = refl; most = omega arith };
         })
 
-    pub textures-some : (p : ℕ) (b n : Cursor) → r ≡ sought.Found p b n → (i : OpenItems) → i ≡ record { rest = b; words = 7; flags = 0; sets = 0; size = 0 } → TextsOpen 1 s i
+    pub textures-some : (f : Sought) → r ≡ Some f → (i : OpenItems) → i ≡ record { rest = f.body; words = 7; flags = 0; sets = 0; size = 0 } → TextsOpen 1 s i
     unfolding width if text_rows
-    textures-some p b n w i e =
+    textures-some f w i e =
         rw e
         (record {
-          rows = rows_are s [] r x p b n w;
-          at = record { inside = textures-body s [] r x p b n w; words = omega arith; wide = refl; most = omega arith };
+          rows = rows_are s [] r x f w;
+          at = record { inside = textures-body s [] r x f w; words = omega arith; wide = refl; most = omega arith };
         })
 
   module _ (x : FirstIs s BRUS r) where
-    pub brushes-none : r ≡ sought.Nothing → (i : OpenItems) → i ≡ record { rest = span (length s) (length s); words = 7; flags = 0; sets = 0; size = 8 } → TextsOpen 2 s i
+    pub brushes-none : r ≡ None → (i : OpenItems) → i ≡ record { rest = span (length s) (length s); words = 7; flags = 0; sets = 0; size = 8 } → TextsOpen 2 s i
     unfolding width if
     brushes-none w i e =
         rw e
@@ -56,17 +56,17 @@ module _ (s : List ℕ) (r : Sought) where
           at = record { inside = record { before = omega arith; within = omega arith }; words = omega arith; wide = refl; most = omega arith };
         })
 
-    module _ (p : ℕ) (b n : Cursor) (w : r ≡ sought.Found p b n) where
-      pub brushes-in : Inside b (length s)
-      brushes-in = brushes-body s [] r x p b n w
+    module _ (g : Sought) (w : r ≡ Some g) where
+      pub brushes-in : Inside g.body (length s)
+      brushes-in = brushes-body s [] r x g w
 
-      module _ (h : Headed) (f : FirstWord s b h) where
+      module _ (h : Headed) (f : FirstWord s g.body h) where
         pub brushes-over : 8 < h.word → (i : OpenItems) → i ≡ record { rest = span (length s) (length s); words = 7; flags = 0; sets = 0; size = 8 } → TextsOpen 2 s i
         unfolding width if
         brushes-over k i e =
             rw e
             (record {
-              rows = head-is s [] r x p b n w h f ∙ no-brushes h.word (p + 12) _ k ∙ sym (none_rows s (length s) 8);
+              rows = head-is s [] r x g w h f ∙ no-brushes h.word (g.at + 12) _ k ∙ sym (none_rows s (length s) 8);
               at = record { inside = record { before = omega arith; within = omega arith }; words = omega arith; wide = refl; most = omega arith };
             })
 
@@ -77,8 +77,8 @@ module _ (s : List ℕ) (r : Sought) where
               let z : 8 - ids ≡ 8 - h.word = ap (λ (j : ℕ). 8 - j) ei in
               rw (e, ← z)
               (record {
-                rows = texts_are s [] r x p b n w h f k ids ei;
-                at = record { inside = brushes-rest s [] r x p b n w h f; words = omega (arith, ei); wide = omega (arith, ei); most = omega (arith, ei) };
+                rows = texts_are s [] r x g w h f k ids ei;
+                at = record { inside = brushes-rest s [] r x g w h f; words = omega (arith, ei); wide = omega (arith, ei); most = omega (arith, ei) };
               })
 
 pub ruleset open_laws = (word-inside, textures-none, textures-some, brushes-none, brushes-in, brushes-over, brushes-some)

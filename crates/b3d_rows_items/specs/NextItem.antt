@@ -1,9 +1,8 @@
 -- The next row of a table of items, and the position behind it.
-use Rattle.std.specs.Prelude.{ℕ, List}
+use Rattle.std.specs.Prelude as std
+use Rattle.std.specs.Prelude.{ℕ, List, Some, None}
 use Rattle.b3d_rows_positions.specs.Positions.{items_ahead, ItemPosition, Comes, NoRow}
 use Rattle.b3d_rows_positions.specs.declared.Position.{Position}
-use Rattle.b3d_rows_positions.specs.declared.NextPosition.{NextPosition}
-use Rattle.b3d_rows_positions.specs.declared.NextPosition.TheVariants as more
 
 -- the step from x to y, over a row of table k
 pub record ItemNext (k : ℕ) (s : List ℕ) (x : Position) (row put : List ℕ) (y : Position) : Type 0 where
@@ -12,11 +11,11 @@ pub record ItemNext (k : ℕ) (s : List ℕ) (x : Position) (row put : List ℕ)
   -- the position behind it is one in table k
   pub position : ItemPosition k s y
 
-abbrev pub ItemNextIs : ℕ → List ℕ → Position → List ℕ → List ℕ → NextPosition → Type 0
-ItemNextIs k s x row put (more.At y) = ItemNext k s x row put y
-ItemNextIs k s x row put more.End = NoRow (items_ahead k s x) row put
+abbrev pub ItemNextIs : ℕ → List ℕ → Position → List ℕ → List ℕ → std.Option Position → Type 0
+ItemNextIs k s x row put (Some y) = ItemNext k s x row put y
+ItemNextIs k s x row put None = NoRow (items_ahead k s x) row put
 
 -- what `next_item` does
-pub record ItemNexts (k : ℕ) (s : List ℕ) (x : Position) (row put : List ℕ) (r : NextPosition) : Type 0 where
+pub record ItemNexts (k : ℕ) (s : List ℕ) (x : Position) (row put : List ℕ) (r : std.Option Position) : Type 0 where
   -- by the case of the answer
   pub is : ItemNextIs k s x row put r

@@ -1,5 +1,6 @@
 -- Rows that are still to come of a table of texts: 1, the textures, and 2, the brushes. `size` says how many cells of a row name nothing.
-use Rattle.std.specs.Prelude.{◌≡◌, ℕ, ◌+◌, ◌<◌, ◌≤◌, List, map, length}
+use Rattle.std.specs.Prelude as std
+use Rattle.std.specs.Prelude.{◌≡◌, ℕ, ◌+◌, ◌<◌, ◌≤◌, List, map, length, Some, None}
 use Rattle.wire.specs.Cursors.{Inside, left}
 use Rattle.b3d_spec.specs.Tables.{width, vertex_width}
 use Rattle.b3d_spec_plain_rows.specs.Plain.{named_items}
@@ -8,8 +9,6 @@ use Rattle.b3d_read_materials.specs.Texts.{named_row}
 use Rattle.b3d_rows_open_items.specs.declared.OpenItems.{OpenItems}
 use Rattle.b3d_rows_positions.specs.Positions.{Comes, NoRow}
 use Rattle.b3d_rows_positions.specs.declared.Position.{Position}
-use Rattle.b3d_rows_positions.specs.declared.NextPosition.{NextPosition}
-use Rattle.b3d_rows_positions.specs.declared.NextPosition.TheVariants as more
 
 -- the rows of the texts from a place on
 unfoldable pub text_rows : List ℕ → OpenItems → List (List ℕ)
@@ -50,11 +49,11 @@ pub record TextNext (k : ℕ) (s : List ℕ) (x : Position) (row put : List ℕ)
   -- the position behind it is one in table k
   pub position : TextPosition k s y
 
-abbrev pub TextNextIs : ℕ → List ℕ → Position → List ℕ → List ℕ → NextPosition → Type 0
-TextNextIs k s x row put (more.At y) = TextNext k s x row put y
-TextNextIs k s x row put more.End = NoRow (texts_ahead s x) row put
+abbrev pub TextNextIs : ℕ → List ℕ → Position → List ℕ → List ℕ → std.Option Position → Type 0
+TextNextIs k s x row put (Some y) = TextNext k s x row put y
+TextNextIs k s x row put None = NoRow (texts_ahead s x) row put
 
 -- what `next_text` does
-pub record TextNexts (k : ℕ) (s : List ℕ) (x : Position) (row put : List ℕ) (r : NextPosition) : Type 0 where
+pub record TextNexts (k : ℕ) (s : List ℕ) (x : Position) (row put : List ℕ) (r : std.Option Position) : Type 0 where
   -- by the case of the answer
   pub is : TextNextIs k s x row put r

@@ -9,15 +9,14 @@ ghost use Rattle.b3d_rows_positions.specs.Positions.{ItemPosition, ItemsMore, It
 ghost use Rattle.b3d_rows_items.specs.NextItem.{ItemNexts};
 ghost use Rattle.b3d_rows_items.specs.NextText.{TextsOpen, TextPosition, TextNexts};
 
-use b3d_chunk_cursor::Named;
 use b3d_chunk_walk::Sought;
 use b3d_rows_open_items::OpenItems;
-use b3d_rows_positions::{NextPosition, Position};
+use b3d_rows_positions::Position;
 use b3d_spec::{MOST_SLOTS, Tag};
 use wire::Cursor;
 
-// Returns the position at the first item of the next chunk after `x` that has items of table `k`, or `End`.
-fn more_items(file: &[u8], k: u32, x: Position) -> NextPosition
+// Returns the position at the first item of the next chunk after `x` that has items of table `k`, or `None`.
+fn more_items(file: &[u8], k: u32, x: Position) -> Option<Position>
     requires { ItemTable k × ItemPosition k file.now x }
     ensures { ItemsMore k file.now x result }
 {
@@ -27,8 +26,8 @@ fn more_items(file: &[u8], k: u32, x: Position) -> NextPosition
     b3d_rows_positions::more_chunks(file, k, x)
 }
 
-// Returns the position before the first item of table `k` from `from` on, `End` where none is to come.
-fn find_item(file: &[u8], k: u32, from: Position) -> NextPosition
+// Returns the position before the first item of table `k` from `from` on, `None` where none is to come.
+fn find_item(file: &[u8], k: u32, from: Position) -> Option<Position>
     requires { ItemTable k × ItemPosition k file.now from }
     ensures { ItemFinds k file.now from result }
 {
@@ -37,31 +36,26 @@ fn find_item(file: &[u8], k: u32, from: Position) -> NextPosition
         let items = x.items;
         let rest = items.rest;
         if 4 * items.words <= rest.end - rest.at {
-            return NextPosition::At(x);
+            return Some(x);
         }
-        let NextPosition::At(y) = more_items(file, k, x) else {
-            return NextPosition::End;
-        };
-        x = y;
+        x = more_items(file, k, x)?;
     }
 }
 
 // Writes the next row of table `k`, which is 5, 7, 8 or 10, into the start of `row` and returns the position behind it. The cells behind the row stay. Where no
-// row is to come, `row` stays, and the answer is `End`.
-pub fn next_item(file: &[u8], k: u32, from: Position, row: &mut [u32]) -> NextPosition
+// row is to come, `row` stays, and the answer is `None`.
+pub fn next_item(file: &[u8], k: u32, from: Position, row: &mut [u32]) -> Option<Position>
     requires { ItemTable k × ItemPosition k file.now from × (vertex_width ≤ length row.old) }
     ensures { ItemNexts k file.now from row.old row.new result }
 {
-    let NextPosition::At(x) = find_item(file, k, from) else {
-        return NextPosition::End;
-    };
+    let x = find_item(file, k, from)?;
     let items = x.items;
     b3d_rows_open_items::put_item(file, k, items, row);
     let rest = items.rest;
     let at = rest.at + 4 * items.words;
     let inner = x.inner;
     let counts = x.counts;
-    NextPosition::At(Position {
+    Some(Position {
         at: x.at,
         inner,
         items: OpenItems {
@@ -92,7 +86,7 @@ fn no_texts(end: usize, free: u32) -> OpenItems
 pub fn open_textures(file: &[u8]) -> OpenItems
     ensures { TextsOpen 1 file.now result }
 {
-    let Sought::Found { body: rest, .. } = b3d_read_materials::first_chunk(file, Tag::TEXS) else {
+    let Some(Sought { body: rest, .. }) = b3d_read_materials::first_chunk(file, Tag::TEXS) else {
         return no_texts(file.len(), 0);
     };
     OpenItems {
@@ -108,7 +102,7 @@ pub fn open_textures(file: &[u8]) -> OpenItems
 pub fn open_brushes(file: &[u8]) -> OpenItems
     ensures { TextsOpen 2 file.now result }
 {
-    let Sought::Found { body, .. } = b3d_read_materials::first_chunk(file, Tag::BRUS) else {
+    let Some(Sought { body, .. }) = b3d_read_materials::first_chunk(file, Tag::BRUS) else {
         return no_texts(file.len(), 8);
     };
     let head = b3d_chunk_walk::first_word(file, body);
@@ -127,36 +121,37 @@ pub fn open_brushes(file: &[u8]) -> OpenItems
 }
 
 // Writes the next row of table `k`, which is 1 or 2, into the start of `row` and returns the position behind it. The cells behind the row stay. Where no row is
-// to come, `row` stays, and the answer is `End`.
-pub fn next_text(file: &[u8], k: u32, x: Position, row: &mut [u32]) -> NextPosition
+// to come, `row` stays, and the answer is `None`.
+pub fn next_text(file: &[u8], k: u32, x: Position, row: &mut [u32]) -> Option<Position>
     requires { TextPosition k file.now x × (vertex_width ≤ length row.old) }
     ensures { TextNexts k file.now x row.old row.new result }
 {
     let items = x.items;
     let c = items.rest;
-    match b3d_chunk_cursor::named_row(file, c, items.words) {
-        Named::Cut => NextPosition::End,
-        Named::Is {
-            length,
-            row: w,
-            next,
-        } => {
-            let free = wire::size(items.size);
-            b3d_read_materials::put_row(file, c.at, length, w, items.words, free, 0, row);
-            let inner = x.inner;
-            let counts = x.counts;
-            NextPosition::At(Position {
-                at: x.at,
-                inner,
-                items: OpenItems {
-                    rest: next,
-                    words: items.words,
-                    flags: items.flags,
-                    sets: items.sets,
-                    size: items.size,
-                },
-                counts,
-            })
-        }
-    }
+    let named = b3d_chunk_cursor::named_row(file, c, items.words)?;
+    let free = wire::size(items.size);
+    b3d_read_materials::put_row(
+        file,
+        c.at,
+        named.length,
+        named.row,
+        items.words,
+        free,
+        0,
+        row,
+    );
+    let inner = x.inner;
+    let counts = x.counts;
+    Some(Position {
+        at: x.at,
+        inner,
+        items: OpenItems {
+            rest: named.next,
+            words: items.words,
+            flags: items.flags,
+            sets: items.sets,
+            size: items.size,
+        },
+        counts,
+    })
 }

@@ -1,4 +1,7 @@
 -- The loop of `find_node`: a law for each need.
+use Rattle.std.specs.Prelude.{Some, None}
+use Rattle.std.specs.Prelude as std
+use Rattle.b3d_chunk_walk.specs.declared.FlatChunk.{FlatChunk}
 use mathlib.Core.Path.{◌≡◌, refl, ap, sym, subst, ◌∙◌}
 use Prim.Native.Nat.{ℕ, ◌+◌, ◌-◌, ◌/◌, ◌<◌, ◌≤◌}
 use native.Mathlib.Nat.{div-le_self}
@@ -11,7 +14,6 @@ use lib.ListN.{length}
 use lib.Dec.{T}
 use Rattle.wire.specs.Test.{if}
 use Rattle.wire.specs.Cursors.{Inside, left}
-use Rattle.wire.specs.declared.Cursor.{Cursor}
 use Rattle.layout.proofs.ResultLaws.{if_yes, if_no}
 use Rattle.b3d_spec.specs.declared.Counts.{Counts}
 use Rattle.b3d_spec.specs.declared.Tag.{Tag}
@@ -20,12 +22,9 @@ use Rattle.b3d_spec.specs.Tags.{is}
 use Rattle.b3d_spec_plain_rows.specs.Flat.{flat_at}
 use Rattle.b3d_spec_plain_rows.specs.Rows.{Open, counted}
 use Rattle.b3d_chunk_walk.specs.Walks.{ChunkIs, Ends, FlatIs, Steps}
-use Rattle.b3d_chunk_walk.specs.declared.Flat.{Flat}
-use Rattle.b3d_chunk_walk.specs.declared.Flat.TheVariants as run
 use Rattle.b3d_chunk_walk.proofs.CountLaws.{tag_same, counted-nodes, counted-meshes, counted-weights}
 use Rattle.b3d_read_node_cells.proofs.OwnChunkLaws.{bone-count}
 use Rattle.b3d_rows_nodes.specs.NextNode.{shallow_rows, NodeFinds}
-use Rattle.b3d_rows_nodes.specs.declared.FoundNode.TheVariants as met
 use Rattle.b3d_rows_nodes.proofs.FlatNodeLaws.{no_rows}
 
 -- the rows from one place on are those from a later one on, but for counts
@@ -70,31 +69,31 @@ module _ (s : List ℕ) (from m w : ℕ) where
     pub find-mesh-fits : length s < 0x100000000 → Fits w64 (meshes + 1)
     find-mesh-fits small = record { fits = omega (arith, v.few_meshes, v.inside) }
 
-    module _ (r : Flat) (x : Steps s at r) where
-      pub find_none : r ≡ run.End → NodeFinds s from m w met.End
+    module _ (r : std.Option FlatChunk) (x : Steps s at r) where
+      pub find_none : r ≡ None → NodeFinds s from m w None
       find_none e =
           let d : Ends (flat_at s at) = subst (FlatIs s at) e x.is in
           record { is = record { rows = λ l n em ew. (v.rows l n em ew).rows ∙ no_rows (flat_at s at) l l (v.rows l n em ew).counts (d.nodes l (v.rows l n em ew).counts) } }
 
-      module _ (t : Tag) (p : ℕ) (b : Cursor) (q : ℕ) (e : r ≡ run.Chunk t p b q) where
-        it : ChunkIs s at t p b q
+      module _ (d : FlatChunk) (e : r ≡ Some d) where
+        it : ChunkIs s at d.tag d.at d.body d.next
         it = subst (FlatIs s at) e x.is
 
-        pub find_less : length s - q < length s - at
+        pub find_less : length s - d.next < length s - at
         find_less = omega (arith, it.more, it.to)
 
-        pub find-order : b.at ≤ b.end
+        pub find-order : d.body.at ≤ d.body.end
         find-order = it.body.room
 
-        body_in : Inside b (length s)
+        body_in : Inside d.body (length s)
         body_in = record { before = it.body.room; within = it.body.within }
 
-        module _ (ok : Bool) (eo : ok ≡ is t NODE) where
-          pub find-node : ok ≡ true → NodeFinds s from m w (met.Node p b q meshes weights)
+        module _ (ok : Bool) (eo : ok ≡ is d.tag NODE) where
+          pub find-node : ok ≡ true → NodeFinds s from m w (Some (record { at = d.at; body = d.body; next = d.next; meshes = meshes; weights = weights }))
           unfolding shallow_rows if
           find-node z =
-              let y = yes-tag t NODE ok eo z in
-              let f = subst (λ (u : Tag). ChunkIs s at u p b q) (tag_same t NODE y) it in
+              let y = yes-tag d.tag NODE ok eo z in
+              let f = subst (λ (u : Tag). ChunkIs s at u d.at d.body d.next) (tag_same d.tag NODE y) it in
               record {
                 is = record {
                   rows = λ l n em ew.
@@ -111,20 +110,20 @@ module _ (s : List ℕ) (from m w : ℕ) where
               }
 
           module _ (z : ok ≡ false) where
-            no_node : T (not (is t NODE))
-            no_node = no-tag t NODE ok eo z
+            no_node : T (not (is d.tag NODE))
+            no_node = no-tag d.tag NODE ok eo z
 
-            on : (i j : ℕ) → ((c : Counts) → c.meshes ≡ meshes → (counted t p (left b s) c).meshes ≡ i) → ((c : Counts) → c.weights ≡ weights → (counted t p (left b s) c).weights ≡ j) → i ≤ q → j ≤ q → FindLeft s from m w q i j
+            on : (i j : ℕ) → ((c : Counts) → c.meshes ≡ meshes → (counted d.tag d.at (left d.body s) c).meshes ≡ i) → ((c : Counts) → c.weights ≡ weights → (counted d.tag d.at (left d.body s) c).weights ≡ j) → i ≤ d.next → j ≤ d.next → FindLeft s from m w d.next i j
             unfolding shallow_rows
             on i j mi wj hi hj = record {
               rows = λ l n em ew.
                   let g = v.rows l n em ew in
                   record {
-                    counts = counted t p (left b s) g.counts;
-                    nodes_are = counted-nodes p (left b s) g.counts t ∙ if_no (is t NODE) _ _ no_node ∙ g.nodes_are;
+                    counts = counted d.tag d.at (left d.body s) g.counts;
+                    nodes_are = counted-nodes d.at (left d.body s) g.counts d.tag ∙ if_no (is d.tag NODE) _ _ no_node ∙ g.nodes_are;
                     meshes_are = mi g.counts g.meshes_are;
                     weights_are = wj g.counts g.weights_are;
-                    rows = g.rows ∙ ap (shallow_rows l g.counts) it.run ∙ if_no (is t NODE) _ (shallow_rows l (counted t p (left b s) g.counts) (flat_at s q)) no_node;
+                    rows = g.rows ∙ ap (shallow_rows l g.counts) it.run ∙ if_no (is d.tag NODE) _ (shallow_rows l (counted d.tag d.at (left d.body s) g.counts) (flat_at s d.next)) no_node;
                   };
               inside = it.to;
               since = omega (arith, v.since, it.more);
@@ -132,32 +131,32 @@ module _ (s : List ℕ) (from m w : ℕ) where
               few_weights = hj;
             }
 
-            same_meshes : T (not (is t MESH)) → (c : Counts) → c.meshes ≡ meshes → (counted t p (left b s) c).meshes ≡ meshes
-            same_meshes h c ec = counted-meshes p (left b s) c t ∙ if_no (is t MESH) _ _ h ∙ ec
+            same_meshes : T (not (is d.tag MESH)) → (c : Counts) → c.meshes ≡ meshes → (counted d.tag d.at (left d.body s) c).meshes ≡ meshes
+            same_meshes h c ec = counted-meshes d.at (left d.body s) c d.tag ∙ if_no (is d.tag MESH) _ _ h ∙ ec
 
-            same_weights : T (not (is t BONE)) → (c : Counts) → c.weights ≡ weights → (counted t p (left b s) c).weights ≡ weights
-            same_weights h c ec = counted-weights p (left b s) c t ∙ if_no (is t BONE) _ _ h ∙ ec
+            same_weights : T (not (is d.tag BONE)) → (c : Counts) → c.weights ≡ weights → (counted d.tag d.at (left d.body s) c).weights ≡ weights
+            same_weights h c ec = counted-weights d.at (left d.body s) c d.tag ∙ if_no (is d.tag BONE) _ _ h ∙ ec
 
-            module _ (mesh : Bool) (eh : mesh ≡ is t MESH) where
-              pub find-mesh : mesh ≡ true → FindLeft s from m w q (meshes + 1) weights
+            module _ (mesh : Bool) (eh : mesh ≡ is d.tag MESH) where
+              pub find-mesh : mesh ≡ true → FindLeft s from m w d.next (meshes + 1) weights
               find-mesh y =
-                  let h = yes-tag t MESH mesh eh y in
-                  on (meshes + 1) weights (λ c ec. counted-meshes p (left b s) c t ∙ if_yes (is t MESH) _ _ h ∙ ap (λ (i : ℕ). i + 1) ec) (same_weights (other_tag t MESH BONE h tt))
+                  let h = yes-tag d.tag MESH mesh eh y in
+                  on (meshes + 1) weights (λ c ec. counted-meshes d.at (left d.body s) c d.tag ∙ if_yes (is d.tag MESH) _ _ h ∙ ap (λ (i : ℕ). i + 1) ec) (same_weights (other_tag d.tag MESH BONE h tt))
                   (omega (arith, v.few_meshes, it.more)) (omega (arith, v.few_weights, it.more))
 
-              module _ (y : mesh ≡ false) (bone : Bool) (eb : bone ≡ is t BONE) where
-                pub find-bone-fits : length s < 0x100000000 → Fits w64 (weights + (b.end - b.at) / 8)
-                find-bone-fits small = record { fits = omega (arith, v.few_weights, v.inside, div-le_self (b.end - b.at) 8, it.body.within) }
+              module _ (y : mesh ≡ false) (bone : Bool) (eb : bone ≡ is d.tag BONE) where
+                pub find-bone-fits : length s < 0x100000000 → Fits w64 (weights + (d.body.end - d.body.at) / 8)
+                find-bone-fits small = record { fits = omega (arith, v.few_weights, v.inside, div-le_self (d.body.end - d.body.at) 8, it.body.within) }
 
-                pub find-bone : bone ≡ true → FindLeft s from m w q meshes (weights + (b.end - b.at) / 8)
+                pub find-bone : bone ≡ true → FindLeft s from m w d.next meshes (weights + (d.body.end - d.body.at) / 8)
                 find-bone u =
-                    let h = yes-tag t BONE bone eb u in
-                    let past : b.end ≤ q = it.past no_node in
-                    on meshes (weights + (b.end - b.at) / 8) (same_meshes (no-tag t MESH mesh eh y))
-                    (λ c ec. counted-weights p (left b s) c t ∙ if_yes (is t BONE) _ _ h ∙ omega (arith, ec, bone-count s b body_in))
-                    (omega (arith, v.few_meshes, it.more)) (omega (arith, v.few_weights, div-le_self (b.end - b.at) 8, it.from, it.body.head, it.body.room))
+                    let h = yes-tag d.tag BONE bone eb u in
+                    let past : d.body.end ≤ d.next = it.past no_node in
+                    on meshes (weights + (d.body.end - d.body.at) / 8) (same_meshes (no-tag d.tag MESH mesh eh y))
+                    (λ c ec. counted-weights d.at (left d.body s) c d.tag ∙ if_yes (is d.tag BONE) _ _ h ∙ omega (arith, ec, bone-count s d.body body_in))
+                    (omega (arith, v.few_meshes, it.more)) (omega (arith, v.few_weights, div-le_self (d.body.end - d.body.at) 8, it.from, it.body.head, it.body.room))
 
-                pub find-other : bone ≡ false → FindLeft s from m w q meshes weights
-                find-other u = on meshes weights (same_meshes (no-tag t MESH mesh eh y)) (same_weights (no-tag t BONE bone eb u)) (omega (arith, v.few_meshes, it.more)) (omega (arith, v.few_weights, it.more))
+                pub find-other : bone ≡ false → FindLeft s from m w d.next meshes weights
+                find-other u = on meshes weights (same_meshes (no-tag d.tag MESH mesh eh y)) (same_weights (no-tag d.tag BONE bone eb u)) (omega (arith, v.few_meshes, it.more)) (omega (arith, v.few_weights, it.more))
 
 pub ruleset find_laws = (find_start, find-inside, find-mesh-fits, find_none, find_less, find-order, find-node, find-mesh, find-bone-fits, find-bone, find-other)

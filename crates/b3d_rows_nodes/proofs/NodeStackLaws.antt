@@ -73,8 +73,10 @@ module _ (ends : List ℕ) (depth p : ℕ) where
   close_start h = record { low = omega arith; deep = h; is = λ nodes. refl }
 
   module _ (d : ℕ) (v : CloseLeft ends depth p d) where
-    pub close_none : d ≤ 0 → NodesOpenAt ends depth p d
-    close_none h = record { low = v.low; is = λ nodes. stack-none ends nodes p d (omega arith) ∙ v.is nodes }
+    pub close_none : d ≤ 0 → NodesOpenAt ends depth p 0
+    close_none h =
+        let z : d ≡ 0 = omega arith in
+        subst (λ (k : ℕ). NodesOpenAt ends depth p k) z (record { low = v.low; is = λ nodes. stack-none ends nodes p d (omega arith) ∙ v.is nodes })
 
     module _ (h : 0 < d) where
       pub close_index : d - 1 < 16
@@ -84,8 +86,11 @@ module _ (ends : List ℕ) (depth p : ℕ) where
       last nodes = let e : d ≡ suc (d - 1) = omega arith in ap (stack_to ends nodes) e ∙ stack-more ends nodes (d - 1)
 
       module _ (end : ℕ) (ee : end ≡ get_or ends (d - 1) 0) where
-        pub close_found : p < end → NodesOpenAt ends depth p d
-        close_found lt = record { low = v.low; is = λ nodes. sym (ap (open_at p) (last nodes) ∙ open_still p _ _ (omega (arith, ee)) ∙ sym (last nodes)) ∙ v.is nodes }
+        pub close_found : p < end → NodesOpenAt ends depth p (d - 1 + 1)
+        close_found lt =
+            let z : d ≡ d - 1 + 1 = omega arith in
+            subst (λ (k : ℕ). NodesOpenAt ends depth p k) z
+            (record { low = v.low; is = λ nodes. sym (ap (open_at p) (last nodes) ∙ open_still p _ _ (omega (arith, ee)) ∙ sym (last nodes)) ∙ v.is nodes })
 
         pub close_on : end ≤ p → CloseLeft ends depth p (d - 1)
         close_on le = record { low = omega (arith, v.low); deep = v.deep; is = λ nodes. sym (ap (open_at p) (last nodes) ∙ open_closed p _ _ (omega (arith, ee))) ∙ v.is nodes }

@@ -1,5 +1,7 @@
 -- Rows of nodes that are still to come.
-use Rattle.std.specs.Prelude.{◌≡◌, ℕ, ◌+◌, ◌<◌, ◌≤◌, Bool, true, false, ◌&&◌, List, [], ◌∷◌, length, T, leb, ltb}
+use Rattle.std.specs.Prelude as std
+use Rattle.b3d_rows_nodes.specs.declared.FoundNode.{FoundNode}
+use Rattle.std.specs.Prelude.{◌≡◌, ℕ, ◌+◌, ◌<◌, ◌≤◌, Bool, true, false, ◌&&◌, List, [], ◌∷◌, length, T, leb, ltb, Some, None}
 use Rattle.wire.specs.Test.{if}
 use Rattle.wire.specs.Cursors.{left}
 use Rattle.wire.specs.declared.Cursor.{Cursor}
@@ -16,8 +18,6 @@ use Rattle.b3d_rows_nodes.specs.NodeStack.{open_at, stack_of, OpenNodesAt}
 use Rattle.b3d_rows_nodes.specs.declared.OpenNodes.{OpenNodes}
 use Rattle.b3d_rows_positions.specs.Positions.{Comes, NoRow}
 use Rattle.b3d_rows_positions.specs.declared.Position.{Position}
-use Rattle.b3d_rows_nodes.specs.declared.FoundNode.{FoundNode}
-use Rattle.b3d_rows_nodes.specs.declared.FoundNode.TheVariants as met
 use Rattle.b3d_rows_nodes.specs.declared.RowCursor.{RowCursor}
 use Rattle.b3d_rows_nodes.specs.declared.NextCursor.{NextCursor}
 
@@ -80,12 +80,12 @@ pub record NoNode (s : List ℕ) (from m w : ℕ) : Type 0 where
   -- no row is to come
   pub rows : (l : List Open) (n : Counts) → n.meshes ≡ m → n.weights ≡ w → shallow_rows l n (flat_at s from) ≡ []
 
-abbrev pub NodeFoundIs : List ℕ → ℕ → ℕ → ℕ → FoundNode → Type 0
-NodeFoundIs s from m w (met.Node p b q meshes weights) = NodeFound s from m w p b q meshes weights
-NodeFoundIs s from m w met.End = NoNode s from m w
+abbrev pub NodeFoundIs : List ℕ → ℕ → ℕ → ℕ → std.Option FoundNode → Type 0
+NodeFoundIs s from m w (Some f) = NodeFound s from m w f.at f.body f.next f.meshes f.weights
+NodeFoundIs s from m w None = NoNode s from m w
 
 -- what `find_node` returns
-pub record NodeFinds (s : List ℕ) (from m w : ℕ) (r : FoundNode) : Type 0 where
+pub record NodeFinds (s : List ℕ) (from m w : ℕ) (r : std.Option FoundNode) : Type 0 where
   -- by the case of the answer
   pub is : NodeFoundIs s from m w r
 

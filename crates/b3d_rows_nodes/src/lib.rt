@@ -7,7 +7,6 @@ ghost use Rattle.b3d_spec.specs.Rules.{levels};
 ghost use Rattle.b3d_rows_nodes.specs.NodeStack.{stack_of, open_at, top_of, OpenNodesAt, NodesOpenAt, Enters};
 ghost use Rattle.b3d_rows_nodes.specs.NextNode.{NodeFinds, NodePosition, NodeNexts};
 
-use b3d_chunk_walk::Flat;
 use b3d_rows_positions::Position;
 use b3d_spec::{LEVELS, Tag};
 use wire::Cursor;
@@ -25,15 +24,12 @@ fn close(ends: [usize; LEVELS], depth: usize, p: usize) -> usize
     requires { depth ≤ levels }
     ensures { NodesOpenAt ends depth p result }
 {
-    let mut d = depth;
-    while 0 < d {
-        let end = ends[d - 1];
-        if p < end {
-            return d;
+    for d in (0..depth).rev() {
+        if p < ends[d] {
+            return d + 1;
         }
-        d -= 1;
     }
-    d
+    0
 }
 
 // Returns the row number of the last of the first `d` nodes, NONE where `d` is 0.
@@ -89,21 +85,19 @@ fn is_full(path: OpenNodes, p: usize) -> bool
     false
 }
 
-// The next NODE: its header is at `at`, its own chunks begin at `next`, and `meshes` meshes and `weights` weights came before it. `End` where there is none.
+// The next NODE: its header is at `at`, its own chunks begin at `next`, and `meshes` meshes and `weights` weights came before it.
 #[derive(Clone, Copy)]
-pub enum FoundNode {
-    Node {
-        at: usize,
-        body: Cursor,
-        next: usize,
-        meshes: usize,
-        weights: usize,
-    },
-    End,
+pub struct FoundNode {
+    pub at: usize,
+    pub body: Cursor,
+    pub next: usize,
+    pub meshes: usize,
+    pub weights: usize,
 }
 
-// Returns the first NODE from the place `from` of the flat run on, before which `meshes` meshes and `weights` weights came.
-fn find_node(file: &[u8], from: usize, meshes: usize, weights: usize) -> FoundNode
+// Returns the first NODE from the place `from` of the flat run on, before which `meshes` meshes and `weights` weights came; `None` where
+// there is none.
+fn find_node(file: &[u8], from: usize, meshes: usize, weights: usize) -> Option<FoundNode>
     requires { (from ≤ length file.now) × (length file.now < 0x100000000) × (meshes ≤ from) × (weights ≤ from) }
     ensures { NodeFinds file.now from meshes weights result }
 {
@@ -111,24 +105,22 @@ fn find_node(file: &[u8], from: usize, meshes: usize, weights: usize) -> FoundNo
     let mut m = meshes;
     let mut w = weights;
     loop {
-        let Flat::Chunk(tag, p, body, next) = b3d_chunk_walk::flat_next(file, at) else {
-            return FoundNode::End;
-        };
-        if b3d_chunk_cursor::same(tag, Tag::NODE) {
-            return FoundNode::Node {
-                at: p,
-                body,
-                next,
+        let chunk = b3d_chunk_walk::flat_next(file, at)?;
+        if b3d_chunk_cursor::same(chunk.tag, Tag::NODE) {
+            return Some(FoundNode {
+                at: chunk.at,
+                body: chunk.body,
+                next: chunk.next,
                 meshes: m,
                 weights: w,
-            };
+            });
         }
-        if b3d_chunk_cursor::same(tag, Tag::MESH) {
+        if b3d_chunk_cursor::same(chunk.tag, Tag::MESH) {
             m += 1;
-        } else if b3d_chunk_cursor::same(tag, Tag::BONE) {
-            w += (body.end - body.at) / 8;
+        } else if b3d_chunk_cursor::same(chunk.tag, Tag::BONE) {
+            w += (chunk.body.end - chunk.body.at) / 8;
         }
-        at = next;
+        at = chunk.next;
     }
 }
 
@@ -139,7 +131,8 @@ pub struct RowCursor {
     pub path: OpenNodes,
 }
 
-// The `cursor` behind a row, which is `given`; where no row is to come, `given` is false, and `cursor` is the one before.
+// The `cursor` behind a row, which is `given`; where no row is to come, `given` is false, and `cursor` is the one before. No `Option`: what reads rows promises
+// the cursor in both cases.
 #[derive(Clone, Copy)]
 pub struct NextCursor {
     pub given: bool,
@@ -154,31 +147,34 @@ pub fn next_node(file: &[u8], x: Position, path: OpenNodes, row: &mut [u32]) -> 
 {
     let here = RowCursor { position: x, path };
     let mut counts = x.counts;
-    let FoundNode::Node {
-        at: p,
-        body,
-        next,
-        meshes,
-        weights,
-    } = find_node(file, x.at, counts.meshes, counts.weights)
-    else {
+    let Some(node) = find_node(file, x.at, counts.meshes, counts.weights) else {
         return NextCursor {
             given: false,
             cursor: here,
         };
     };
-    if is_full(path, p) {
+    if is_full(path, node.at) {
         return NextCursor {
             given: false,
             cursor: here,
         };
     }
     let i = shared_table_words::cell(counts.nodes);
-    let e = enter(path, p, body.end, i);
-    b3d_read_nodes::store_node(file, p, body, next, e.parent, meshes, weights, 0, row);
+    let e = enter(path, node.at, node.body.end, i);
+    b3d_read_nodes::store_node(
+        file,
+        node.at,
+        node.body,
+        node.next,
+        e.parent,
+        node.meshes,
+        node.weights,
+        0,
+        row,
+    );
     counts.nodes = counts.nodes + 1;
-    counts.meshes = meshes;
-    counts.weights = weights;
+    counts.meshes = node.meshes;
+    counts.weights = node.weights;
     let inner = x.inner;
     let items = x.items;
     let entered = e.path;
@@ -186,7 +182,7 @@ pub fn next_node(file: &[u8], x: Position, path: OpenNodes, row: &mut [u32]) -> 
         given: true,
         cursor: RowCursor {
             position: Position {
-                at: next,
+                at: node.next,
                 inner,
                 items,
                 counts,

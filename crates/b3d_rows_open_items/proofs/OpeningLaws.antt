@@ -1,4 +1,7 @@
 -- How the items of a chunk are begun, and the row of one: a law for each need.
+use Rattle.std.specs.Prelude.{Some, None}
+use Rattle.std.specs.Prelude as std
+use Rattle.b3d_chunk_walk.specs.declared.Sought.{Sought}
 use mathlib.Core.Path.{◌≡◌, refl, ap, sym, ◌∙◌}
 use Prim.Native.Nat.{ℕ, ◌+◌, ◌-◌, ◌*◌, ◌%◌, ◌≤◌}
 use native.Mathlib.Omega.{arith}
@@ -22,8 +25,6 @@ use Rattle.b3d_chunk_walk.specs.Walks.{BodyAt}
 use Rattle.b3d_chunk_walk.specs.Seeks.{seek_of, ahead, Seeks, FirstWord, ThreeWords}
 use Rattle.b3d_chunk_walk.specs.declared.Headed.{Headed}
 use Rattle.b3d_chunk_walk.specs.declared.Three.{Three}
-use Rattle.b3d_chunk_walk.specs.declared.Sought.{Sought}
-use Rattle.b3d_chunk_walk.specs.declared.Sought.TheVariants as sought
 use Rattle.b3d_chunk_walk.proofs.SeekLaws.{sought_none, sought_is, sought_body}
 use Rattle.b3d_chunk_walk.proofs.MeshLaws.{mesh-inside, mesh-inner}
 use Rattle.b3d_chunk_walk.proofs.FirstWordLaws.{word-inside}
@@ -51,12 +52,12 @@ module _ (k : ℕ) (n5 : k ≡ 5 → ⊥) (n10 : k ≡ 10 → ⊥) (i : OpenItem
 pub clip_most : (x most r : ℕ) → Clipped x most r → r ≤ most
 clip_most x most r c = c.low
 
-module _ (s : List ℕ) (p : ℕ) (b : Cursor) (y : BodyAt s p b) (h : Headed) (u : FirstWord s b h) (r : Sought) (x : Seeks s h.rest VRTS r) where
+module _ (s : List ℕ) (p : ℕ) (b : Cursor) (y : BodyAt s p b) (h : Headed) (u : FirstWord s b h) (r : std.Option Sought) (x : Seeks s h.rest VRTS r) where
   shape_is : vertices_in p (left b s) ≡ shape_rows (shape_of (seek_of VRTS (ahead s h.rest)))
   unfolding vertices_in
   shape_is = ap (λ l. shape_rows (shape_of l)) (sym (mesh-inner s p b y h u)) ∙ ap shape_rows (shape_seek (ahead s h.rest))
 
-  pub vertices-none : r ≡ sought.Nothing → (i : OpenItems) → i ≡ record { rest = span b.end b.end; words = 3; flags = 0; sets = 0; size = 0 } → AllItemsLeft 5 s p b i
+  pub vertices-none : r ≡ None → (i : OpenItems) → i ≡ record { rest = span b.end b.end; words = 3; flags = 0; sets = 0; size = 0 } → AllItemsLeft 5 s p b i
   unfolding shape_of shape_rows item_rows item_row chunk_items whole if vertex_words
   vertices-none w i e =
       let z : vertices_in p (left b s) ≡ [] = shape_is ∙ ap (λ l. shape_rows (shape_of l)) (sought_none s h.rest VRTS r x w) in
@@ -68,16 +69,16 @@ module _ (s : List ℕ) (p : ℕ) (b : Cursor) (y : BodyAt s p b) (h : Headed) (
         measured = record { some = omega arith; most = omega arith; vertex = λ q. record { flags = omega arith; sets = omega arith; size = omega arith; words = refl }; key = λ q. absurd (omega arith); triangle = λ q. absurd (omega arith); weight = λ q. absurd (omega arith) };
       })
 
-  module _ (q : ℕ) (d n : Cursor) (w : r ≡ sought.Found q d n) where
-    pub vertices-body : Inside d (length s)
-    vertices-body = sought_body s h.rest VRTS r x q d n w (length s) u.inside
+  module _ (f : Sought) (w : r ≡ Some f) where
+    pub vertices-body : Inside f.body (length s)
+    vertices-body = sought_body s h.rest VRTS r x f w (length s) u.inside
 
-    module _ (t : Three) (v : ThreeWords s d t) (m k : ℕ) (cn : Clipped t.second 8 m) (cz : Clipped t.third 4 k) (l : ℕ) (ew : l ≡ vertex_words (t.first % 4) m k) (lo : 3 ≤ l) (hi : l ≤ 42) where
+    module _ (t : Three) (v : ThreeWords s f.body t) (m k : ℕ) (cn : Clipped t.second 8 m) (cz : Clipped t.third 4 k) (l : ℕ) (ew : l ≡ vertex_words (t.first % 4) m k) (lo : 3 ≤ l) (hi : l ≤ 42) where
       pub vertices-some : (i : OpenItems) → i ≡ record { rest = t.rest; words = l; flags = t.first % 4; sets = m; size = k } → AllItemsLeft 5 s p b i
       unfolding shape_of shape_rows plain_vertices item_rows item_row chunk_items if
       vertices-some i e =
           let o : ones (vertex_mask (t.first % 4) m k) ≡ vertex_words (t.first % 4) m k = vertex-words (t.first % 4) m k (omega arith) cn.low cz.low in
-          let z : vertices_in p (left b s) ≡ shape_rows (plain_vertices (left d s)) = shape_is ∙ ap (λ c. shape_rows (shape_of c)) (sought_is s h.rest VRTS r x q d n w) in
+          let z : vertices_in p (left b s) ≡ shape_rows (plain_vertices (left f.body s)) = shape_is ∙ ap (λ c. shape_rows (shape_of c)) (sought_is s h.rest VRTS r x f w) in
           rw e
           (record {
             rows = sym (z ∙ rw (v.first_is, v.second_is, v.third_is, v.bytes_are, mask_clipped t.first t.second t.third m k cn cz, o, ew));

@@ -45,32 +45,28 @@ fn open_vertices(file: &[u8], p: usize, body: Cursor) -> OpenItems
     ensures { AllItemsLeft 5 file.now p body result }
 {
     let head = b3d_chunk_walk::first_word(file, body);
-    match b3d_chunk_walk::seek(file, head.rest, Tag::VRTS) {
-        Sought::Nothing => {
-            let at = body.end;
-            OpenItems {
-                rest: Cursor { at, end: at },
-                words: 3,
-                flags: 0,
-                sets: 0,
-                size: 0,
-            }
-        }
-        Sought::Found { body: b, .. } => {
-            let h = b3d_chunk_walk::three_words(file, b);
-            let flags = h.first % 4;
-            let sets = b3d_rule_widths::at_most(h.second, 8);
-            let size = b3d_rule_widths::at_most(h.third, 4);
-            let words = b3d_rule_widths::vertex_words(flags, sets, size);
-            let rest = h.rest;
-            OpenItems {
-                rest,
-                words,
-                flags,
-                sets,
-                size,
-            }
-        }
+    let Some(Sought { body: b, .. }) = b3d_chunk_walk::seek(file, head.rest, Tag::VRTS) else {
+        let at = body.end;
+        return OpenItems {
+            rest: Cursor { at, end: at },
+            words: 3,
+            flags: 0,
+            sets: 0,
+            size: 0,
+        };
+    };
+    let h = b3d_chunk_walk::three_words(file, b);
+    let flags = h.first % 4;
+    let sets = b3d_rule_widths::at_most(h.second, 8);
+    let size = b3d_rule_widths::at_most(h.third, 4);
+    let words = b3d_rule_widths::vertex_words(flags, sets, size);
+    let rest = h.rest;
+    OpenItems {
+        rest,
+        words,
+        flags,
+        sets,
+        size,
     }
 }
 

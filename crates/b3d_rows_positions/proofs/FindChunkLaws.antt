@@ -1,4 +1,8 @@
 -- The loop of `find_chunk`: a law for each way through it, and what its answer says to those who asked.
+use Rattle.std.specs.Prelude.{Some, None}
+use Rattle.std.specs.Prelude as std
+use Rattle.b3d_chunk_walk.specs.declared.FlatChunk.{FlatChunk}
+use Rattle.b3d_rows_positions.specs.declared.FoundChunk.{FoundChunk}
 use mathlib.Core.Path.{◌≡◌, refl, ap, sym, subst, ◌∙◌}
 use Prim.Native.Nat.{ℕ, ◌+◌, ◌-◌, ◌*◌, ◌<◌, ◌≤◌}
 use native.Mathlib.Omega.{arith}
@@ -9,7 +13,6 @@ use mir.Val.{Fits}
 use lib.ListN.{length}
 use lib.Dec.{T}
 use Rattle.wire.specs.Cursors.{left}
-use Rattle.wire.specs.declared.Cursor.{Cursor}
 use Rattle.layout.proofs.ResultLaws.{if_yes, if_no}
 use Rattle.b3d_spec.specs.declared.Counts.{Counts}
 use Rattle.b3d_spec.specs.declared.Tag.{Tag}
@@ -18,12 +21,8 @@ use Rattle.b3d_spec.specs.Tags.{is}
 use Rattle.b3d_spec_plain_rows.specs.Flat.{flat_at}
 use Rattle.b3d_spec_plain_rows.specs.Rows.{counted, chunk_rows, flat_rows}
 use Rattle.b3d_chunk_walk.specs.Walks.{ChunkIs, Ends, FlatIs, Steps}
-use Rattle.b3d_chunk_walk.specs.declared.Flat.{Flat}
-use Rattle.b3d_chunk_walk.specs.declared.Flat.TheVariants as run
 use Rattle.b3d_chunk_walk.proofs.CountLaws.{tag_same, counted-nodes, counted-meshes, counted-vertices, counted-sets, counted-triangles, counted-keys}
 use Rattle.b3d_rows_positions.specs.FindChunk.{Only, LaterCounts, ChunkFound, NoChunk, ChunkFoundIs, ChunkFinds}
-use Rattle.b3d_rows_positions.specs.declared.FoundChunk.{FoundChunk}
-use Rattle.b3d_rows_positions.specs.declared.FoundChunk.TheVariants as met
 
 -- table j's rows from one place on are those from a later one on, but for counts
 pub record Reached (s : List ℕ) (from : ℕ) (k : Tag) (at nodes j : ℕ) (n : Counts) : Type 0 where
@@ -76,32 +75,32 @@ module _ (s : List ℕ) (from : ℕ) (k : Tag) (before : ℕ) where
     pub find-chunk-fits : length s * 1 < 0x8000000000000000 → Fits w64 (nodes + 1)
     find-chunk-fits small = record { fits = omega (arith, v.few, v.inside) }
 
-    module _ (r : Flat) (x : Steps s at r) where
-      pub find-chunk-none : r ≡ run.End → ChunkFinds s from k before met.End
+    module _ (r : std.Option FlatChunk) (x : Steps s at r) where
+      pub find-chunk-none : r ≡ None → ChunkFinds s from k before None
       find-chunk-none w =
           let e : Ends (flat_at s at) = subst (FlatIs s at) w x.is in
           record { is = record { rows = λ j o n en. (v.rows j o n en).rows ∙ e.rows j (v.rows j o n en).counts } }
 
-      module _ (t : Tag) (p : ℕ) (b : Cursor) (q : ℕ) (w : r ≡ run.Chunk t p b q) where
-        it : ChunkIs s at t p b q
+      module _ (f : FlatChunk) (w : r ≡ Some f) where
+        it : ChunkIs s at f.tag f.at f.body f.next
         it = subst (FlatIs s at) w x.is
 
-        pub find-chunk-less : length s - q < length s - at
+        pub find-chunk-less : length s - f.next < length s - at
         find-chunk-less = omega (arith, it.more, it.to)
 
-        step : (j : ℕ) (m : Counts) → flat_rows j m (flat_at s at) ≡ chunk_rows j t p (left b s) m ++ flat_rows j (counted t p (left b s) m) (flat_at s q)
+        step : (j : ℕ) (m : Counts) → flat_rows j m (flat_at s at) ≡ chunk_rows j f.tag f.at (left f.body s) m ++ flat_rows j (counted f.tag f.at (left f.body s) m) (flat_at s f.next)
         unfolding flat_rows
         step j m = ap (flat_rows j m) it.run
 
-        module _ (ok : Bool) (eo : ok ≡ is t k) where
-          pub find-chunk-found : ok ≡ true → ChunkFinds s from k before (met.Chunk p b q nodes)
+        module _ (ok : Bool) (eo : ok ≡ is f.tag k) where
+          pub find-chunk-found : ok ≡ true → ChunkFinds s from k before (Some (record { at = f.at; body = f.body; next = f.next; nodes = nodes }))
           find-chunk-found z =
-              let e = tag_same t k (yes-tag t k ok eo z) in
+              let e = tag_same f.tag k (yes-tag f.tag k ok eo z) in
               record {
                 is = record {
                   rows = λ j o n en.
                       let y = v.rows j o n en in
-                      record { counts = y.counts; later = y.later; rows = y.rows ∙ subst (λ (u : Tag). flat_rows j y.counts (flat_at s at) ≡ chunk_rows j u p (left b s) y.counts ++ flat_rows j (counted u p (left b s) y.counts) (flat_at s q)) e (step j y.counts) };
+                      record { counts = y.counts; later = y.later; rows = y.rows ∙ subst (λ (u : Tag). flat_rows j y.counts (flat_at s at) ≡ chunk_rows j u f.at (left f.body s) y.counts ++ flat_rows j (counted u f.at (left f.body s) y.counts) (flat_at s f.next)) e (step j y.counts) };
                   few = omega (arith, v.few, it.from);
                   body = it.body;
                   since = omega (arith, v.since, it.from);
@@ -111,35 +110,35 @@ module _ (s : List ℕ) (from : ℕ) (k : Tag) (before : ℕ) where
                 };
               }
 
-          module _ (z : ok ≡ false) (node : Bool) (ew : node ≡ is t NODE) where
-            on : (i : ℕ) → i ≤ q → ((m : Counts) → m.nodes ≡ nodes → (counted t p (left b s) m).nodes ≡ i) → FindChunkLeft s from k before q i
+          module _ (z : ok ≡ false) (node : Bool) (ew : node ≡ is f.tag NODE) where
+            on : (i : ℕ) → i ≤ f.next → ((m : Counts) → m.nodes ≡ nodes → (counted f.tag f.at (left f.body s) m).nodes ≡ i) → FindChunkLeft s from k before f.next i
             on i few g = record {
               rows = λ j o n en.
                   let y = v.rows j o n en in
-                  let h = no-tag t k ok eo z in
+                  let h = no-tag f.tag k ok eo z in
                   record {
-                    counts = counted t p (left b s) y.counts;
-                    later = passed t k p (left b s) n y.counts h nodes y.later i (g y.counts y.later.nodes_are);
-                    rows = y.rows ∙ step j y.counts ∙ ap (λ l. l ++ flat_rows j (counted t p (left b s) y.counts) (flat_at s q)) (o.other t p (left b s) y.counts h);
+                    counts = counted f.tag f.at (left f.body s) y.counts;
+                    later = passed f.tag k f.at (left f.body s) n y.counts h nodes y.later i (g y.counts y.later.nodes_are);
+                    rows = y.rows ∙ step j y.counts ∙ ap (λ l. l ++ flat_rows j (counted f.tag f.at (left f.body s) y.counts) (flat_at s f.next)) (o.other f.tag f.at (left f.body s) y.counts h);
                   };
               inside = it.to;
               since = omega (arith, v.since, it.more);
               few = few;
             }
 
-            pub find-chunk-node : node ≡ true → FindChunkLeft s from k before q (nodes + 1)
-            find-chunk-node u = on (nodes + 1) (omega (arith, v.few, it.more)) (λ m e. counted-nodes p (left b s) m t ∙ if_yes (is t NODE) _ _ (yes-tag t NODE node ew u) ∙ ap (λ (i : ℕ). i + 1) e)
+            pub find-chunk-node : node ≡ true → FindChunkLeft s from k before f.next (nodes + 1)
+            find-chunk-node u = on (nodes + 1) (omega (arith, v.few, it.more)) (λ m e. counted-nodes f.at (left f.body s) m f.tag ∙ if_yes (is f.tag NODE) _ _ (yes-tag f.tag NODE node ew u) ∙ ap (λ (i : ℕ). i + 1) e)
 
-            pub find-chunk-other : node ≡ false → FindChunkLeft s from k before q nodes
-            find-chunk-other u = on nodes (omega (arith, v.few, it.more)) (λ m e. counted-nodes p (left b s) m t ∙ if_no (is t NODE) _ _ (no-tag t NODE node ew u) ∙ e)
+            pub find-chunk-other : node ≡ false → FindChunkLeft s from k before f.next nodes
+            find-chunk-other u = on nodes (omega (arith, v.few, it.more)) (λ m e. counted-nodes f.at (left f.body s) m f.tag ∙ if_no (is f.tag NODE) _ _ (no-tag f.tag NODE node ew u) ∙ e)
 
 pub ruleset find-chunk_laws = (find-chunk-start, find-chunk-inside, find-chunk-fits, find-chunk-none, find-chunk-less, find-chunk-found, find-chunk-node, find-chunk-other)
 
 -- ---- what an answer says to those who asked
 
-module _ (s : List ℕ) (from : ℕ) (k : Tag) (before : ℕ) (r : FoundChunk) (x : ChunkFinds s from k before r) where
-  pub chunk-none : r ≡ met.End → NoChunk s from k before
+module _ (s : List ℕ) (from : ℕ) (k : Tag) (before : ℕ) (r : std.Option FoundChunk) (x : ChunkFinds s from k before r) where
+  pub chunk-none : r ≡ None → NoChunk s from k before
   chunk-none w = subst (ChunkFoundIs s from k before) w x.is
 
-  pub chunk-at : (p : ℕ) (b : Cursor) (q nodes : ℕ) → r ≡ met.Chunk p b q nodes → ChunkFound s from k before p b q nodes
-  chunk-at p b q nodes w = subst (ChunkFoundIs s from k before) w x.is
+  pub chunk-at : (f : FoundChunk) → r ≡ Some f → ChunkFound s from k before f.at f.body f.next f.nodes
+  chunk-at f w = subst (ChunkFoundIs s from k before) w x.is

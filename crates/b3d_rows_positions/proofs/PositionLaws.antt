@@ -1,13 +1,17 @@
 -- The next MESH, and the next chunk of items: a law for each need.
+use Rattle.std.specs.Prelude.{Some, None}
+use Rattle.std.specs.Prelude as std
+use Rattle.b3d_chunk_walk.specs.declared.Sought.{Sought}
+use Rattle.b3d_rows_positions.specs.declared.FoundChunk.{FoundChunk}
 use mathlib.Core.Path.{◌≡◌, refl, ap, ap₂, sym, subst, ◌∙◌}
-use Prim.Native.Nat.{ℕ, ◌+◌, ◌-◌, ◌*◌, ◌<◌, ◌≤◌}
+use Prim.Native.Nat.{ℕ, ◌+◌, ◌*◌, ◌<◌, ◌≤◌}
 use native.Mathlib.Omega.{arith}
 use mathlib.Core.Bool.{not}
 use mathlib.Core.List.{List, [], ◌++◌, append_assoc}
 use mir.Syntax.{w64}
 use mir.Val.{Fits}
 use lib.ListN.{length}
-use lib.Dec.{T, eqb}
+use lib.Dec.{T}
 use borrow.Author.Tests.{eq-eqb, ne_eqb}
 use Rattle.wire.specs.Test.{if}
 use Rattle.wire.specs.Cursors.{Inside, left}
@@ -25,14 +29,10 @@ use Rattle.b3d_spec_plain_rows.specs.Rows.{counted, chunk_rows, flat_rows}
 use Rattle.b3d_chunk_walk.specs.Walks.{BodyAt}
 use Rattle.b3d_chunk_walk.specs.Seeks.{ahead, inner, Seeks, FirstWord}
 use Rattle.b3d_chunk_walk.specs.declared.Headed.{Headed}
-use Rattle.b3d_chunk_walk.specs.declared.Sought.{Sought}
-use Rattle.b3d_chunk_walk.specs.declared.Sought.TheVariants as sought
 use Rattle.b3d_chunk_walk.proofs.TableLaws.{Owns}
 use Rattle.b3d_chunk_walk.proofs.SeekLaws.{sought_among, sought_body, sought_next, sought_less}
 use Rattle.b3d_chunk_walk.proofs.MeshLaws.{mesh-inside, mesh-inner, no-set, one_set}
 use Rattle.b3d_rows_positions.specs.FindChunk.{Only, RowsFound, ChunkFound, ChunkFinds}
-use Rattle.b3d_rows_positions.specs.declared.FoundChunk.{FoundChunk}
-use Rattle.b3d_rows_positions.specs.declared.FoundChunk.TheVariants as met
 use Rattle.b3d_rows_positions.proofs.FindChunkLaws.{chunk-none, chunk-at}
 use Rattle.b3d_read_triangle_rows.specs.Sets.{triangles_in}
 use Rattle.b3d_read_meshes.proofs.TableLaws.{vertices, triangles}
@@ -42,8 +42,6 @@ use Rattle.b3d_rows_open_items.specs.declared.OpenItems.{OpenItems}
 use Rattle.b3d_rows_open_items.proofs.ItemsLeftLaws.{by-table}
 use Rattle.b3d_rows_positions.specs.Positions.{inner_rows, items_later, items_ahead, MeshPosition, MeshOpens, owner_of, ItemPosition, ItemsMore}
 use Rattle.b3d_rows_positions.specs.declared.Position.{Position}
-use Rattle.b3d_rows_positions.specs.declared.NextPosition.{NextPosition}
-use Rattle.b3d_rows_positions.specs.declared.NextPosition.TheVariants as more
 
 -- ---- the next MESH
 
@@ -57,24 +55,24 @@ module _ (s : List ℕ) (x : Position) (v : MeshPosition s x) where
   pub mesh-count : length s * 1 < 0x8000000000000000 → Fits w64 (x.counts.meshes + 1)
   mesh-count small = record { fits = omega (arith, v.meshes, v.run) }
 
-  module _ (r : FoundChunk) (m : ChunkFinds s x.at MESH x.counts.nodes r) where
-    pub mesh-none : r ≡ met.End → MeshOpens s x more.End
+  module _ (r : std.Option FoundChunk) (m : ChunkFinds s x.at MESH x.counts.nodes r) where
+    pub mesh-none : r ≡ None → MeshOpens s x None
     mesh-none w = record { is = chunk-none s x.at MESH x.counts.nodes r m w }
 
-    module _ (p : ℕ) (b : Cursor) (q nodes : ℕ) (w : r ≡ met.Chunk p b q nodes) where
-      it : ChunkFound s x.at MESH x.counts.nodes p b q nodes
-      it = chunk-at s x.at MESH x.counts.nodes r m p b q nodes w
+    module _ (f : FoundChunk) (w : r ≡ Some f) where
+      it : ChunkFound s x.at MESH x.counts.nodes f.at f.body f.next f.nodes
+      it = chunk-at s x.at MESH x.counts.nodes r m f w
 
-      pub mesh-body : Inside b (length s)
-      mesh-body = mesh-inside s p b it.body
+      pub mesh-body : Inside f.body (length s)
+      mesh-body = mesh-inside s f.at f.body it.body
 
-      pub mesh-opened : (h : Headed) → FirstWord s b h
+      pub mesh-opened : (h : Headed) → FirstWord s f.body h
           → (y : Position) → y ≡ record {
-            at = q;
+            at = f.next;
             inner = h.rest;
             items = x.items;
             counts = record {
-              nodes = nodes;
+              nodes = f.nodes;
               meshes = x.counts.meshes + 1;
               vertices = x.counts.vertices;
               sets = x.counts.sets;
@@ -84,16 +82,16 @@ module _ (s : List ℕ) (x : Position) (v : MeshPosition s x) where
               keys = x.counts.keys;
             };
           }
-          → MeshOpens s x (more.At y)
+          → MeshOpens s x (Some y)
       mesh-opened h u y z =
-          let e : b.end ≤ q = it.past tt in
-          subst (λ (n : Position). MeshOpens s x (more.At n)) (sym z)
+          let e : f.body.end ≤ f.next = it.past tt in
+          subst (λ (n : Position). MeshOpens s x (Some n)) (sym z)
           (record {
             is = record {
-              head = p;
-              body = b;
+              head = f.at;
+              body = f.body;
               met = it;
-              inner_is = mesh-inner s p b it.body h u;
+              inner_is = mesh-inner s f.at f.body it.body h u;
               position = record {
                 run = it.to;
                 inside = u.inside;
@@ -170,39 +168,39 @@ module _ (k : ℕ) (t : ItemTable k) (n7 : k ≡ 7 → ⊥) (s : List ℕ) (x : 
   pub items-run : x.at ≤ length s
   items-run = v.walk.run
 
-  module _ (tag : Tag) (et : tag ≡ owner_of k) (r : FoundChunk) (m : ChunkFinds s x.at tag 0 r) where
+  module _ (tag : Tag) (et : tag ≡ owner_of k) (r : std.Option FoundChunk) (m : ChunkFinds s x.at tag 0 r) where
     here : ChunkFinds s x.at (owner_of k) 0 r
     here = rw et at m
 
-    pub items-none : r ≡ met.End → ItemsMore k s x more.End
+    pub items-none : r ≡ None → ItemsMore k s x None
     unfolding items_later start
     items-none w =
         let e = (chunk-none s x.at (owner_of k) 0 r here w).rows k (owns-only owns) start refl in
         record { is = record { rows = ap₂ ◌++◌ (inner-none k n7 s x.inner) e } }
 
-    module _ (p : ℕ) (b : Cursor) (q nodes : ℕ) (w : r ≡ met.Chunk p b q nodes) where
-      chunk-found : ChunkFound s x.at (owner_of k) 0 p b q nodes
-      chunk-found = chunk-at s x.at (owner_of k) 0 r here p b q nodes w
+    module _ (f : FoundChunk) (w : r ≡ Some f) where
+      chunk-found : ChunkFound s x.at (owner_of k) 0 f.at f.body f.next f.nodes
+      chunk-found = chunk-at s x.at (owner_of k) 0 r here f w
 
-      pub items-body : BodyAt s p b
+      pub items-body : BodyAt s f.at f.body
       items-body = chunk-found.body
 
-      rows-found : RowsFound s x.at (owner_of k) p b q nodes k start
+      rows-found : RowsFound s x.at (owner_of k) f.at f.body f.next f.nodes k start
       unfolding start
       rows-found = chunk-found.rows k (owns-only owns) start refl
 
-      run_is : flat_rows k start (flat_at s x.at) ≡ chunk_items k p (left b s) ++ flat_rows k start (flat_at s q)
+      run_is : flat_rows k start (flat_at s x.at) ≡ chunk_items k f.at (left f.body s) ++ flat_rows k start (flat_at s f.next)
       run_is =
           rows-found.rows
-          ∙ ap₂ ◌++◌ (owns.own (owner_of k) p (left b s) rows-found.counts (self (owner_of k))) (free-rows owns (λ p b n m. refl) (flat_at s q) (counted (owner_of k) p (left b s) rows-found.counts) start)
+          ∙ ap₂ ◌++◌ (owns.own (owner_of k) f.at (left f.body s) rows-found.counts (self (owner_of k))) (free-rows owns (λ p b n m. refl) (flat_at s f.next) (counted (owner_of k) f.at (left f.body s) rows-found.counts) start)
 
-      pub items-opened : (i : OpenItems) → AllItemsLeft k s p b i → (y : Position) → y ≡ record { at = q; inner = x.inner; items = i; counts = x.counts } → ItemsMore k s x (more.At y)
+      pub items-opened : (i : OpenItems) → AllItemsLeft k s f.at f.body i → (y : Position) → y ≡ record { at = f.next; inner = x.inner; items = i; counts = x.counts } → ItemsMore k s x (Some y)
       unfolding items_later items_ahead
       items-opened i o y ey =
-          subst (λ (z : Position). ItemsMore k s x (more.At z)) (sym ey)
+          subst (λ (z : Position). ItemsMore k s x (Some z)) (sym ey)
           (record {
             is = record {
-              rows = λ e. ap₂ ◌++◌ (inner-none k n7 s x.inner) run_is ∙ ap₂ ◌++◌ (sym o.rows) (ap (λ l. l ++ flat_rows k start (flat_at s q)) (sym (inner-none k n7 s x.inner)));
+              rows = λ e. ap₂ ◌++◌ (inner-none k n7 s x.inner) run_is ∙ ap₂ ◌++◌ (sym o.rows) (ap (λ l. l ++ flat_rows k start (flat_at s f.next)) (sym (inner-none k n7 s x.inner)));
               position = record {
                 walk = record {
                   run = chunk-found.to;
@@ -225,17 +223,17 @@ triangles_in-is : (p : ℕ) (b : List ℕ) → triangles_in p b ≡ triangle_row
 unfolding triangles_in
 triangles_in-is p b = refl
 
-module _ (s : List ℕ) (x : Position) (v : ItemPosition 7 s x) (r : Sought) (u : Seeks s x.inner TRIS r) where
-  module _ (w : r ≡ sought.Nothing) where
+module _ (s : List ℕ) (x : Position) (v : ItemPosition 7 s x) (r : std.Option Sought) (u : Seeks s x.inner TRIS r) where
+  module _ (w : r ≡ None) where
     none : inner_rows 7 s x.inner ≡ []
     unfolding inner_rows if triangle_rows
     none = ap triangle_rows (no-set s x.inner r u w)
 
-    pub sets_none : (a : NextPosition) → MeshOpens s x a → ItemsMore 7 s x a
+    pub sets_none : (a : std.Option Position) → MeshOpens s x a → ItemsMore 7 s x a
     unfolding items_later items_ahead inner_rows if
-    sets_none more.End o =
+    sets_none None o =
         record { is = record { rows = ap₂ ◌++◌ none (free-rows triangles (λ p b n m. refl) (flat_at s x.at) start x.counts ∙ o.is.rows 7 (owns-only triangles) x.counts refl) } }
-    sets_none (more.At y) o =
+    sets_none (Some y) o =
         let d = o.is in
         let g = d.met.rows 7 (owns-only triangles) x.counts refl in
         let run_is : flat_rows 7 start (flat_at s x.at) ≡ triangle_rows (sets_of (ahead s y.inner)) ++ flat_rows 7 start (flat_at s y.at) =
@@ -259,26 +257,26 @@ module _ (s : List ℕ) (x : Position) (v : ItemPosition 7 s x) (r : Sought) (u 
     pub sets-walk : MeshPosition s x
     sets-walk = v.walk
 
-  module _ (p : ℕ) (b n : Cursor) (w : r ≡ sought.Found p b n) where
-    pub set_body : BodyAt s p b
+  module _ (g : Sought) (w : r ≡ Some g) where
+    pub set_body : BodyAt s g.at g.body
     set_body =
-        let f = sought_among s x.inner TRIS r u p b n w in
-        let i = sought_body s x.inner TRIS r u p b n w (length s) v.walk.inside in
+        let f = sought_among s x.inner TRIS r u g w in
+        let i = sought_body s x.inner TRIS r u g w (length s) v.walk.inside in
         record { head = f.body; room = i.before; within = i.within }
 
-    pub set-opened : (i : OpenItems) → AllItemsLeft 7 s p b i → (y : Position) → y ≡ record { at = x.at; inner = n; items = i; counts = x.counts } → ItemsMore 7 s x (more.At y)
+    pub set-opened : (i : OpenItems) → AllItemsLeft 7 s g.at g.body i → (y : Position) → y ≡ record { at = x.at; inner = g.next; items = i; counts = x.counts } → ItemsMore 7 s x (Some y)
     unfolding items_later items_ahead inner_rows if chunk_items triangle_rows
     set-opened i o y ey =
-        subst (λ (z : Position). ItemsMore 7 s x (more.At z)) (sym ey)
+        subst (λ (z : Position). ItemsMore 7 s x (Some z)) (sym ey)
         (record {
           is = record {
-            rows = λ e. ap (λ l. l ++ flat_rows 7 start (flat_at s x.at)) (ap triangle_rows (one_set s x.inner r u p b n w) ∙ ap (λ l. l ++ triangle_rows (sets_of (ahead s n))) (sym o.rows)) ∙ append_assoc (item_rows 7 s i) (triangle_rows (sets_of (ahead s n))) (flat_rows 7 start (flat_at s x.at));
+            rows = λ e. ap (λ l. l ++ flat_rows 7 start (flat_at s x.at)) (ap triangle_rows (one_set s x.inner r u g w) ∙ ap (λ l. l ++ triangle_rows (sets_of (ahead s g.next))) (sym o.rows)) ∙ append_assoc (item_rows 7 s i) (triangle_rows (sets_of (ahead s g.next))) (flat_rows 7 start (flat_at s x.at));
             position = record {
-              walk = record { run = v.walk.run; inside = sought_next s x.inner TRIS r u p b n w (length s) v.walk.inside; nodes = v.walk.nodes; meshes = v.walk.meshes };
+              walk = record { run = v.walk.run; inside = sought_next s x.inner TRIS r u g w (length s) v.walk.inside; nodes = v.walk.nodes; meshes = v.walk.meshes };
               items = o.inside;
               measured = o.measured;
             };
-            less = omega (arith, sought_less s x.inner TRIS r u p b n w);
+            less = omega (arith, sought_less s x.inner TRIS r u g w);
           };
         })
 

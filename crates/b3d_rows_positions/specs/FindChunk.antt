@@ -1,5 +1,7 @@
 -- The next chunk of a tag in the flat run of a file's chunks: what the tables that have rows of such chunks alone have from a place on.
-use Rattle.std.specs.Prelude.{◌≡◌, ℕ, ◌+◌, ◌≤◌, not, List, [], ◌++◌, length, T}
+use Rattle.std.specs.Prelude as std
+use Rattle.b3d_rows_positions.specs.declared.FoundChunk.{FoundChunk}
+use Rattle.std.specs.Prelude.{◌≡◌, ℕ, ◌+◌, ◌≤◌, not, List, [], ◌++◌, length, T, Some, None}
 use Rattle.wire.specs.Cursors.{left}
 use Rattle.wire.specs.declared.Cursor.{Cursor}
 use Rattle.b3d_spec.specs.declared.Counts.{Counts}
@@ -9,8 +11,6 @@ use Rattle.b3d_spec.specs.Tags.{is}
 use Rattle.b3d_spec_plain_rows.specs.Flat.{flat_at}
 use Rattle.b3d_spec_plain_rows.specs.Rows.{counted, chunk_rows, flat_rows}
 use Rattle.b3d_chunk_walk.specs.Walks.{BodyAt}
-use Rattle.b3d_rows_positions.specs.declared.FoundChunk.{FoundChunk}
-use Rattle.b3d_rows_positions.specs.declared.FoundChunk.TheVariants as met
 
 -- table j has rows of chunks of tag k alone
 pub record Only (j : ℕ) (k : Tag) : Type 0 where
@@ -60,11 +60,11 @@ pub record NoChunk (s : List ℕ) (from : ℕ) (k : Tag) (before : ℕ) : Type 0
   -- a table that has rows of such chunks alone has no more
   pub rows : (j : ℕ) → Only j k → (n : Counts) → n.nodes ≡ before → flat_rows j n (flat_at s from) ≡ []
 
-abbrev pub ChunkFoundIs : List ℕ → ℕ → Tag → ℕ → FoundChunk → Type 0
-ChunkFoundIs s from k before (met.Chunk p b q nodes) = ChunkFound s from k before p b q nodes
-ChunkFoundIs s from k before met.End = NoChunk s from k before
+abbrev pub ChunkFoundIs : List ℕ → ℕ → Tag → ℕ → std.Option FoundChunk → Type 0
+ChunkFoundIs s from k before (Some f) = ChunkFound s from k before f.at f.body f.next f.nodes
+ChunkFoundIs s from k before None = NoChunk s from k before
 
 -- what `find_chunk` returns
-pub record ChunkFinds (s : List ℕ) (from : ℕ) (k : Tag) (before : ℕ) (r : FoundChunk) : Type 0 where
+pub record ChunkFinds (s : List ℕ) (from : ℕ) (k : Tag) (before : ℕ) (r : std.Option FoundChunk) : Type 0 where
   -- by the case of the answer
   pub is : ChunkFoundIs s from k before r

@@ -1,5 +1,6 @@
 -- The rows that are still to come from a position, for the tables of items.
-use Rattle.std.specs.Prelude.{◌≡◌, ℕ, ◌+◌, ◌-◌, ◌*◌, ◌<◌, ◌≤◌, List, [], ◌∷◌, ◌++◌, length, eqb}
+use Rattle.std.specs.Prelude as std
+use Rattle.std.specs.Prelude.{◌≡◌, ℕ, ◌+◌, ◌-◌, ◌*◌, ◌<◌, ◌≤◌, List, [], ◌∷◌, ◌++◌, length, eqb, Some, None}
 use Rattle.std.proofs.lemmas.List.Edits.{sets as stored}
 use Rattle.wire.specs.Test.{if}
 use Rattle.wire.specs.Cursors.{Inside, left}
@@ -14,8 +15,6 @@ use Rattle.b3d_chunk_walk.specs.Seeks.{ahead, inner}
 use Rattle.b3d_rows_positions.specs.FindChunk.{ChunkFound, NoChunk}
 use Rattle.b3d_rows_open_items.specs.ItemsLeft.{item_rows, Measured}
 use Rattle.b3d_rows_positions.specs.declared.Position.{Position}
-use Rattle.b3d_rows_positions.specs.declared.NextPosition.{NextPosition}
-use Rattle.b3d_rows_positions.specs.declared.NextPosition.TheVariants as more
 
 -- ---- the next row
 
@@ -95,12 +94,12 @@ pub record MeshOpened (s : List ℕ) (x y : Position) : Type 0 where
   pub sets : y.counts.sets ≡ x.counts.sets
   pub triangles : y.counts.triangles ≡ x.counts.triangles
 
-abbrev pub MeshMore : List ℕ → Position → NextPosition → Type 0
-MeshMore s x (more.At y) = MeshOpened s x y
-MeshMore s x more.End = NoChunk s x.at MESH x.counts.nodes
+abbrev pub MeshMore : List ℕ → Position → std.Option Position → Type 0
+MeshMore s x (Some y) = MeshOpened s x y
+MeshMore s x None = NoChunk s x.at MESH x.counts.nodes
 
 -- what `open_mesh` returns
-pub record MeshOpens (s : List ℕ) (x : Position) (r : NextPosition) : Type 0 where
+pub record MeshOpens (s : List ℕ) (x : Position) (r : std.Option Position) : Type 0 where
   -- by the case of the answer
   pub is : MeshMore s x r
 
@@ -133,12 +132,12 @@ pub record NoItems (k : ℕ) (s : List ℕ) (x : Position) : Type 0 where
   -- none is to come
   pub rows : items_later k s x ≡ []
 
-abbrev pub ItemsMoreIs : ℕ → List ℕ → Position → NextPosition → Type 0
-ItemsMoreIs k s x (more.At y) = ItemsOn k s x y
-ItemsMoreIs k s x more.End = NoItems k s x
+abbrev pub ItemsMoreIs : ℕ → List ℕ → Position → std.Option Position → Type 0
+ItemsMoreIs k s x (Some y) = ItemsOn k s x y
+ItemsMoreIs k s x None = NoItems k s x
 
 -- what `more_chunks` and `more_sets` return
-pub record ItemsMore (k : ℕ) (s : List ℕ) (x : Position) (r : NextPosition) : Type 0 where
+pub record ItemsMore (k : ℕ) (s : List ℕ) (x : Position) (r : std.Option Position) : Type 0 where
   -- by the case of the answer
   pub is : ItemsMoreIs k s x r
 
@@ -156,11 +155,11 @@ pub record NoItemFound (k : ℕ) (s : List ℕ) (x : Position) : Type 0 where
   -- none is to come
   pub rows : items_ahead k s x ≡ []
 
-abbrev pub ItemFoundIs : ℕ → List ℕ → Position → NextPosition → Type 0
-ItemFoundIs k s x (more.At y) = ItemFound k s x y
-ItemFoundIs k s x more.End = NoItemFound k s x
+abbrev pub ItemFoundIs : ℕ → List ℕ → Position → std.Option Position → Type 0
+ItemFoundIs k s x (Some y) = ItemFound k s x y
+ItemFoundIs k s x None = NoItemFound k s x
 
 -- the first item that comes from x on is found, or that there is none
-pub record ItemFinds (k : ℕ) (s : List ℕ) (x : Position) (r : NextPosition) : Type 0 where
+pub record ItemFinds (k : ℕ) (s : List ℕ) (x : Position) (r : std.Option Position) : Type 0 where
   -- by the case of the answer
   pub is : ItemFoundIs k s x r

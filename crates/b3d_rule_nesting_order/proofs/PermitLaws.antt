@@ -1,4 +1,6 @@
 -- What the rule says of a tag is what it says of its entry in the table; a law for each way through `is_between` and `is_permitted`.
+use Rattle.std.specs.Prelude.{Some, None}
+use Rattle.std.specs.Prelude as std
 use mathlib.Core.Path.{◌≡◌, refl, ap, sym, ◌∙◌}
 use Prim.Native.Nat.{ℕ, ◌<◌, ◌≤◌}
 use native.Mathlib.Omega.{arith}
@@ -16,8 +18,6 @@ use Rattle.b3d_spec.specs.Nesting as nest
 use Rattle.b3d_spec.proofs.Files.TagCodeLaws.{by-tag}
 use Rattle.b3d_rule_nesting_table.specs.declared.Entry.{Entry}
 use Rattle.b3d_rule_nesting_order.specs.declared.Reached.{Reached}
-use Rattle.b3d_rule_nesting_order.specs.declared.Permit.{Permit}
-use Rattle.b3d_rule_nesting_order.specs.declared.Permit.TheVariants as permit
 use Rattle.b3d_rule_nesting_table.specs.Table.{tags, denied, entry_in, entry_for, nesting_table, entry_at}
 use Rattle.b3d_rule_nesting_order.specs.Turns.{between, reached_of, permit_of}
 use Rattle.b3d_rule_nesting_lookup.specs.Entries.{entry_of}
@@ -68,46 +68,46 @@ next-by all (entry k turn often ∷ l) r t = go (is t k) (next-by all l r t)
 -- ---- the ways of `is_permitted`
 
 module _ (k t : Tag) (e : Entry) (here : e ≡ entry_of k t) (r : Reached) where
-  abbrev Right : Permit → Type 0
+  abbrev Right : std.Option Reached → Type 0
   Right x = x ≡ permit_of (next (nesting k) (nesting k) (reached_of r) t)
 
-  right-by-entry : (x : Permit) → x ≡ permit_of (next_by (nesting k) (reached_of r) e) → Right x
+  right-by-entry : (x : std.Option Reached) → x ≡ permit_of (next_by (nesting k) (reached_of r) e) → Right x
   right-by-entry x h = h ∙ ap (λ (y : Entry). permit_of (next_by (nesting k) (reached_of r) y)) (here ∙ entry_is k t) ∙ ap permit_of (sym (next-by (nesting k) (nesting k) (reached_of r) t))
 
-  pub stand_never : e.allowed ≡ false → Right permit.No
+  pub stand_never : e.allowed ≡ false → Right None
   unfolding if
-  stand_never a = right-by-entry permit.No (rw a)
+  stand_never a = right-by-entry None (rw a)
 
   module _ (a : e.allowed ≡ true) where
     module _ (l : r.turn < e.turn) (b : Bool) (o : b ≡ required_between (nesting k) r.turn e.turn) where
-      pub stand_owed : b ≡ true → Right permit.No
+      pub stand_owed : b ≡ true → Right None
       unfolding if
-      stand_owed y = right-by-entry permit.No (rw (a, lt-ltb r.turn e.turn l, ← o, y, ne_eqb r.turn e.turn (λ q. omega arith)))
+      stand_owed y = right-by-entry None (rw (a, lt-ltb r.turn e.turn l, ← o, y, ne_eqb r.turn e.turn (λ q. omega arith)))
 
-      pub stand-later : b ≡ false → Right (permit.Yes (record { turn = e.turn; spent = not e.again }))
+      pub stand-later : b ≡ false → Right (Some (record { turn = e.turn; spent = not e.again }))
       unfolding if
-      stand-later y = right-by-entry (permit.Yes (record { turn = e.turn; spent = not e.again })) (rw (a, lt-ltb r.turn e.turn l, ← o, y, ne_eqb r.turn e.turn (λ q. omega arith)))
+      stand-later y = right-by-entry (Some (record { turn = e.turn; spent = not e.again })) (rw (a, lt-ltb r.turn e.turn l, ← o, y, ne_eqb r.turn e.turn (λ q. omega arith)))
 
-    pub stand-past : e.turn < r.turn → Right permit.No
+    pub stand-past : e.turn < r.turn → Right None
     unfolding if
-    stand-past l = right-by-entry permit.No (rw (a, le-ltb r.turn e.turn (omega arith), ne_eqb r.turn e.turn (λ q. omega arith)))
+    stand-past l = right-by-entry None (rw (a, le-ltb r.turn e.turn (omega arith), ne_eqb r.turn e.turn (λ q. omega arith)))
 
     module _ (l : e.turn ≤ r.turn) (m : r.turn ≤ e.turn) where
       same : r.turn ≡ e.turn
       same = omega arith
 
-      pub stand-again : e.again ≡ true → Right (permit.Yes r)
+      pub stand-again : e.again ≡ true → Right (Some r)
       unfolding if
       stand-again g =
-          right-by-entry (permit.Yes r)
-          (rw (a, le-ltb r.turn e.turn (omega arith), eq-eqb r.turn e.turn same, g) (λ i. permit.Yes (record { turn = same i; spent = sym (or_false r.spent) i })))
+          right-by-entry (Some r)
+          (rw (a, le-ltb r.turn e.turn (omega arith), eq-eqb r.turn e.turn same, g) (λ i. Some (record { turn = same i; spent = sym (or_false r.spent) i })))
 
-      pub stand-spent : e.again ≡ false → r.spent ≡ true → Right permit.No
+      pub stand-spent : e.again ≡ false → r.spent ≡ true → Right None
       unfolding if
-      stand-spent g s = right-by-entry permit.No (rw (a, le-ltb r.turn e.turn (omega arith), eq-eqb r.turn e.turn same, g, s))
+      stand-spent g s = right-by-entry None (rw (a, le-ltb r.turn e.turn (omega arith), eq-eqb r.turn e.turn same, g, s))
 
-      pub stand-first : e.again ≡ false → r.spent ≡ false → Right (permit.Yes (record { turn = e.turn; spent = true }))
+      pub stand-first : e.again ≡ false → r.spent ≡ false → Right (Some (record { turn = e.turn; spent = true }))
       unfolding if
-      stand-first g s = right-by-entry (permit.Yes (record { turn = e.turn; spent = true })) (rw (a, le-ltb r.turn e.turn (omega arith), eq-eqb r.turn e.turn same, g, s))
+      stand-first g s = right-by-entry (Some (record { turn = e.turn; spent = true })) (rw (a, le-ltb r.turn e.turn (omega arith), eq-eqb r.turn e.turn same, g, s))
 
 pub ruleset may-stand_laws = (stand_never, stand_owed, stand-later, stand-past, stand-again, stand-spent, stand-first)

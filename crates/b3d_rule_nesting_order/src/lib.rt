@@ -27,12 +27,10 @@ fn required_between(enclosing: Tag, lo: u8, hi: u8) -> bool
     ensures { result ≡ required_between (nesting enclosing) lo hi }
 {
     let row = b3d_rule_nesting_lookup::row_of(enclosing);
-    let mut column: usize = 0;
-    while column < 10 {
+    for column in 0..10 {
         if is_between(row[column], lo, hi) {
             return true;
         }
-        column += 1;
     }
     false
 }
@@ -44,15 +42,8 @@ pub struct Reached {
     pub spent: bool,
 }
 
-// Whether a chunk may stand where it does, or the chunks may end there; if so, how far they have come with it.
-#[derive(Clone, Copy)]
-pub enum Permit {
-    No,
-    Yes(Reached),
-}
-
 // Returns whether a chunk of `tag` may stand inside one of the tag `enclosing`, after chunks that came to `reached`; if so, how far they come with it.
-pub fn is_permitted(enclosing: Tag, reached: Reached, tag: Tag) -> Permit
+pub fn is_permitted(enclosing: Tag, reached: Reached, tag: Tag) -> Option<Reached>
     ensures { result ≡ permit_of (next (nesting enclosing) (nesting enclosing) (reached_of reached) tag) }
 {
     let e = b3d_rule_nesting_lookup::entry_of(enclosing, tag);
@@ -60,25 +51,25 @@ pub fn is_permitted(enclosing: Tag, reached: Reached, tag: Tag) -> Permit
     if e.allowed {
         if reached.turn < turn {
             if required_between(enclosing, reached.turn, turn) {
-                return Permit::No;
+                return None;
             }
-            return Permit::Yes(Reached {
+            return Some(Reached {
                 turn,
                 spent: !e.again,
             });
         }
         if turn < reached.turn {
-            return Permit::No;
+            return None;
         }
         if e.again {
-            return Permit::Yes(reached);
+            return Some(reached);
         }
         if reached.spent {
-            return Permit::No;
+            return None;
         }
-        return Permit::Yes(Reached { turn, spent: true });
+        return Some(Reached { turn, spent: true });
     }
-    Permit::No
+    None
 }
 
 // Returns whether a chunk of the tag `enclosing` that ends after `reached` lacks one that must stand in it.

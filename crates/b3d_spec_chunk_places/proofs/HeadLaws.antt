@@ -1,4 +1,6 @@
 -- Fixed data. A body whose fixed data is one number: what the number that stands there says of it, and where the items after it stand.
+use Rattle.std.specs.Prelude.{Some, None}
+use Rattle.std.specs.Prelude as std
 use Prim.Native.Nat.{ℕ, ◌≤◌, ◌<◌, ◌+◌}
 use native.Mathlib.Omega.{arith}
 use mathlib.Core.Bool.{Bool, true, false, not}
@@ -9,8 +11,6 @@ use borrow.Author.Tests.{le-leb, lt-leb, not-true, not-false}
 use Rattle.wire.specs.Bytes.{word_at}
 use Rattle.wire.specs.Cursors.{Inside, left, number_at}
 use Rattle.wire.specs.declared.Cursor.{Cursor}
-use Rattle.wire.specs.declared.Number.{Number}
-use Rattle.wire.specs.declared.Number.TheVariants as number
 use Rattle.wire.proofs.AnswerLaws.{Numbered, numbered, number_cut, left-length, left-four}
 use Rattle.layout.specs.Result.{accept, reject, check}
 use Rattle.layout.specs.Parts.{words, judged, row, words_of}
@@ -23,13 +23,13 @@ module _ (s : List ℕ) (at : ℕ) (b : Cursor) (body : Body at b (length s)) wh
   pub body-inside : Inside b (length s)
   body-inside = record { before = body.room; within = body.within }
 
-  module _ (r : Number) (e : r ≡ number_at s b) where
-    pub head_cut : (rule : Rule) → r ≡ number.Cut → row (rule ∷ []) (at + 8) (left b s) ≡ reject 5 b.at
+  module _ (r : std.Option (ℕ × Cursor)) (e : r ≡ number_at s b) where
+    pub head_cut : (rule : Rule) → r ≡ None → row (rule ∷ []) (at + 8) (left b s) ≡ reject 5 b.at
     head_cut rule w =
         let short = number_cut s b (sym e ∙ w) in
         rw (← body.head) (row-short (rule ∷ []) b.at (left b s) (omega (arith, left-length s b body-inside)))
 
-    module _ (k : ℕ) (c : Cursor) (w : r ≡ number.Is k c) where
+    module _ (k : ℕ) (c : Cursor) (w : r ≡ Some (k, c)) where
       pub head-numbered : Numbered s b k c
       head-numbered = numbered s b k c (sym e ∙ w)
 

@@ -40,11 +40,14 @@ module _ (ls : List ℕ) (first node : ℕ) where
   count_none = record { from = omega arith; sum = omega arith }
 
   module _ (i : ℕ) (v : Counting ls first node i) where
-    pub count_done : length ls / 4 ≤ i → i - first ≡ length (owned_by node (drop first (rows_in 4 ls)))
+    pub count_done : length ls / 4 ≤ i → (first ≤ length ls / 4 → i ≤ length ls / 4) → length ls / 4 - first ≡ length (owned_by node (drop first (rows_in 4 ls)))
     unfolding owned_by
-    count_done h =
+    count_done h k =
         let l : length (rows_in 4 ls) ≤ i = rw (rows-length 4 ls) h in
-        omega (arith, rw (drop_of_length-le (rows_in 4 ls) l) at v.sum)
+        let none : length ls / 4 ≤ first → length (owned_by node (drop first (rows_in 4 ls))) ≡ 0 =
+        λ q. let m : length (rows_in 4 ls) ≤ first = rw (rows-length 4 ls) q in rw (drop_of_length-le (rows_in 4 ls) m) in
+        let one = rw (drop_of_length-le (rows_in 4 ls) l) at v.sum in
+        grind (arith, one, none, k)
 
     module _ (h : i < length ls / 4) (k : ℕ) (e : k ≡ get_or ls (4 * i) 0) where
       next : drop i (rows_in 4 ls) ≡ get_or (rows_in 4 ls) i [] ∷ drop (suc i) (rows_in 4 ls)

@@ -28,14 +28,13 @@ fn put_anim(nodes: &[u32], at: usize, out: &mut [u8]) -> usize
 fn count_lists(lists: &[u32], first: usize, node: usize) -> usize
     ensures { result ≡ length (owned_by node (drop first (rows_in key_list_width lists.now))) }
 {
-    let mut i = first;
-    while i < lists.len() / KEY_LIST_WIDTH {
+    let rows = lists.len() / KEY_LIST_WIDTH;
+    for i in first..rows {
         if number(lists, KEY_LIST_WIDTH * i) != node {
             return i - first;
         }
-        i += 1;
     }
-    i - first
+    rows.saturating_sub(first)
 }
 
 // Writes the KEYS and the ANIM of the node whose row begins at word `row` of `t3` and which comes after the counts `n`. Returns their size.

@@ -54,14 +54,12 @@ pub fn put_runs(
 {
     let mut at: usize = 0;
     let mut next = start;
-    let mut i: usize = 0;
-    while i < count {
+    for i in 0..count {
         let row = 4 * (first + i);
         let n = number(rows, row + columns::GROUP_COUNT);
         let size = put_run(keys, rows[row + 1], items, next, n, &mut out[at..]);
         at += size;
         next += n;
-        i += 1;
     }
     at
 }

@@ -44,13 +44,9 @@ pub fn put_key_rows(flags: u32, keys: &[u32], first: usize, count: usize, out: &
 {
     let g = b3d_rule_row_masks::key_runs(flags);
     let mut at: usize = 0;
-    let mut b = KEY_WIDTH * first;
-    let mut left = count;
-    while 0 < left {
-        let n = put_key(g, keys, b, &mut out[at..]);
+    for i in 0..count {
+        let n = put_key(g, keys, KEY_WIDTH * (first + i), &mut out[at..]);
         at += n;
-        b += KEY_WIDTH;
-        left -= 1;
     }
     at
 }

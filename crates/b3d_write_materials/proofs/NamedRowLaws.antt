@@ -1,7 +1,7 @@
 -- Rows that begin with a name, one and then many.
 use mathlib.Core.Path.{◌≡◌, refl}
 use Prim.Native.Nat.{ℕ, suc, ◌+◌, ◌-◌, ◌*◌, ◌<◌, ◌≤◌}
-use native.Mathlib.Nat.{add-zero}
+use native.Mathlib.Nat.{add-zero, suc-mul}
 use native.Mathlib.Omega.{arith}
 use mathlib.Core.Bool.{Bool}
 use mathlib.Core.List.{List, [], ◌∷◌, ◌++◌}
@@ -20,7 +20,7 @@ use Rattle.b3d_check_spec.specs.Check.{name_valid}
 use Rattle.b3d_write_row_runs.specs.Lent.{each_row}
 use Rattle.b3d_write_materials.specs.Named.{NameThere, NamesThere, named_bytes, row_bytes}
 use Rattle.b3d_write_row_runs.proofs.CutRowLaws.{part-take}
-use Rattle.b3d_write_row_runs.proofs.RowByRowLaws.{RowsLeft, rows_none, rows_same, rows_done, rows_there, rows_room, rows_next}
+use Rattle.b3d_write_row_runs.proofs.RowByRowLaws.{RowsFrom, rows_none, rows_same, rows_done, rows_at, rows_room, rows_next}
 
 -- ---- one row
 
@@ -43,52 +43,66 @@ unfolding row_bytes named_bytes
 row_named ns t w b many h =
     rw (cell_take w b 0 t (omega arith), cell_take w b 1 t (omega arith), add-zero b, part-take 2 many w (drop b t) h, drop-drop 2 b t)
 
--- the rows that are left to write, and that their names are there
-pub record NamedLeft (ns t : List ℕ) (w many : ℕ) (all out₀ out : List ℕ) (at b left : ℕ) : Type 0 where
+-- the first i of `count` rows are written; the names of the others are there
+pub record NamedFrom (ns t : List ℕ) (w many count : ℕ) (all out₀ out : List ℕ) (at i : ℕ) : Type 0 where
   pub wide : many + 2 ≤ w
-  pub names : NamesThere ns (cut w left (drop b t))
-  pub rows : RowsLeft (row_bytes ns many) w t all out₀ out at b left
+  pub names : NamesThere ns (cut w (count - i) (drop (i * w) t))
+  pub rows : RowsFrom (row_bytes ns many) w t 0 count all out₀ out at i
 
 module _ (ns t : List ℕ) (w many : ℕ) where
   pub named_none : (count : ℕ) (out : List ℕ) → (many + 2 ≤ w) × (w < 4294967296) × (count * w ≤ length t) → NamesThere ns (cut w count t) → Room (each_row (row_bytes ns many) (cut w count t)) out
-      → NamedLeft ns t w many (each_row (row_bytes ns many) (cut w count t)) out out 0 0 count
+      → NamedFrom ns t w many count (each_row (row_bytes ns many) (cut w count t)) out out 0 0
   named_none count out h n r =
-      record { wide = h.0; names = n; rows = rows_none (row_bytes ns many) w t (each_row (row_bytes ns many) (cut w count t)) out 0 count r (omega (arith, h.2)) refl }
+      let z : count - 0 ≡ count = omega arith in
+      let b : 0 * w ≡ 0 = omega arith in
+      record { wide = h.0; names = rw (z, b) n; rows = rows_none (row_bytes ns many) w t 0 count (each_row (row_bytes ns many) (cut w count t)) out r (omega (arith, h.2)) refl }
 
-  module _ (all out₀ out : List ℕ) (at b left : ℕ) (v : NamedLeft ns t w many all out₀ out at b left) where
+  module _ (count : ℕ) (all out₀ out : List ℕ) (at i : ℕ) (v : NamedFrom ns t w many count all out₀ out at i) where
     pub named_same : length out ≡ length out₀
-    named_same = rows_same (row_bytes ns many) w t all out₀ out at b left v.rows
+    named_same = rows_same (row_bytes ns many) w t 0 count all out₀ out at i v.rows
 
-    pub named_done : left ≤ 0 → Put all out₀ out at
-    named_done h = rows_done (row_bytes ns many) w t all out₀ out at b left v.rows h
+    pub named_done : count ≤ i → Put all out₀ out at
+    named_done h = rows_done (row_bytes ns many) w t 0 count all out₀ out at i v.rows h
 
-    module _ (h : 0 < left) where
-      pub named_two : b + 2 ≤ length t
-      named_two = omega (arith, v.wide, rows_there (row_bytes ns many) w t all out₀ out at b left v.rows h)
+    module _ (h : i < count) where
+      abbrev b : ℕ
+      b = i * w
 
-      pub named_words : b + 2 + many ≤ length t
-      named_words = omega (arith, v.wide, rows_there (row_bytes ns many) w t all out₀ out at b left v.rows h)
+      place : b ≡ 0 + i * w
+      place = omega arith
+
+      pub named_there_all : b + w ≤ length t
+      named_there_all = rows_at (row_bytes ns many) w t 0 count all out₀ out at i v.rows h b place
+
+      pub named_two : i * w + 2 ≤ length t
+      named_two = omega (arith, v.wide, named_there_all)
+
+      pub named_words : i * w + 2 + many ≤ length t
+      named_words = omega (arith, v.wide, named_there_all)
 
       -- the name of the next row, and those of the others
-      split : (get_or (take w (drop b t)) 0 0 + get_or (take w (drop b t)) 1 0 ≤ length ns) × NamesThere ns (cut w (left - 1) (drop w (drop b t)))
+      split : (get_or (take w (drop b t)) 0 0 + get_or (take w (drop b t)) 1 0 ≤ length ns) × NamesThere ns (cut w (count - (i + 1)) (drop w (drop b t)))
       unfolding NamesThere cut
-      split = let n : left ≡ suc (left - 1) = omega arith in rw n at v.names
+      split = let n : count - i ≡ suc (count - (i + 1)) = omega arith in rw n at v.names
 
-      pub named_there : NameThere ns t b
+      pub named_there : NameThere ns t (i * w)
       named_there = record { there = rw (cell_take w b 0 t (omega (arith, v.wide)), cell_take w b 1 t (omega (arith, v.wide)), add-zero b) at split.0 }
 
-      pub named_room : Room (named_bytes ns t b (b + 2) many) (take (length out - at) (drop at out))
-      named_room = rows_room (row_bytes ns many) w t all out₀ out at b left v.rows h _ (row_named ns t w b many v.wide)
+      pub named_room : Room (named_bytes ns t (i * w) (i * w + 2) many) (take (length out - at) (drop at out))
+      named_room = rows_room (row_bytes ns many) w t 0 count all out₀ out at i v.rows h _ b (row_named ns t w b many v.wide) place
 
-      pub named_next : (zs : List ℕ) (n : ℕ) → Put (named_bytes ns t b (b + 2) many) (take (length out - at) (drop at out)) zs n
-          → NamedLeft ns t w many all out₀ (take at out ++ (zs ++ drop (length out - at) (drop at out))) (at + n) (b + w) (left - 1)
-      named_next zs n k = record {
-        wide = v.wide;
-        names = rw (drop-drop w b t) at split.1;
-        rows = rows_next (row_bytes ns many) w t all out₀ out at b left v.rows h _ (row_named ns t w b many v.wide) zs n k;
-      }
+      pub named_next : (zs : List ℕ) (n : ℕ) → Put (named_bytes ns t (i * w) (i * w + 2) many) (take (length out - at) (drop at out)) zs n
+          → NamedFrom ns t w many count all out₀ (take at out ++ (zs ++ drop (length out - at) (drop at out))) (at + n) (i + 1)
+      named_next zs n k =
+          let o : i + 1 ≡ suc i = omega arith in
+          let e : b + w ≡ (i + 1) * w = rw o (omega (arith, suc-mul i w)) in
+          record {
+            wide = v.wide;
+            names = rw (drop-drop w b t, e) at split.1;
+            rows = rows_next (row_bytes ns many) w t 0 count all out₀ out at i v.rows h _ b (row_named ns t w b many v.wide) place zs n k;
+          }
 
-pub ruleset named_laws = (named_none, named_same, named_done, rows_there, named_two, named_words, named_there, named_room, named_next)
+pub ruleset named_laws = (named_none, named_same, named_done, named_there_all, named_two, named_words, named_there, named_room, named_next)
 
 -- ---- what the check of lent tables says of names
 

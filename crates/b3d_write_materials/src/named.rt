@@ -30,13 +30,10 @@ pub fn put_rows(names: &[u8], t: &[u32], width: usize, m: usize, n: usize, out: 
     ensures { Put (each_row (row_bytes names.now m) (cut width n t.now)) out.old out.new result }
 {
     let mut at: usize = 0;
-    let mut b: usize = 0;
-    let mut left = n;
-    while 0 < left {
-        let size = put_named(names, t, b, b + 2, m, &mut out[at..]);
+    for i in 0..n {
+        let row = i * width;
+        let size = put_named(names, t, row, row + 2, m, &mut out[at..]);
         at += size;
-        b += width;
-        left -= 1;
     }
     at
 }

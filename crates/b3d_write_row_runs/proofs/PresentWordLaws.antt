@@ -1,6 +1,6 @@
 -- A row by its runs is what the mask says of it.
 use mathlib.Core.Path.{◌≡◌, refl, ap, ap₂, sym, ◌∙◌}
-use Prim.Native.Nat.{ℕ, zero, suc, ◌+◌, ◌-◌, ◌*◌, ◌/◌, ◌≤◌}
+use Prim.Native.Nat.{ℕ, zero, suc, ◌+◌, ◌-◌, ◌*◌, ◌/◌, ◌<◌, ◌≤◌}
 use native.Mathlib.Nat.{mul_comm, add-mul, mul-le-mul_right, div-mul-le_self}
 use native.Mathlib.Omega.{arith}
 use mathlib.Core.Bool.{Bool, true, false}
@@ -20,7 +20,7 @@ use Rattle.b3d_rule_row_masks.proofs.MaskLaws.{mask-width}
 use Rattle.b3d_write_row_runs.specs.Lent.{rows_in, each_row}
 use Rattle.b3d_write_row_runs.specs.RowBytes.{sets_bytes, front_bytes, back_bytes, row_bytes}
 use Rattle.b3d_write_row_runs.proofs.CutRowLaws.{rows-from}
-use Rattle.b3d_write_row_runs.proofs.RowByRowLaws.{items-each, RowsLeft, rows_none}
+use Rattle.b3d_write_row_runs.proofs.RowByRowLaws.{items-each, RowsFrom, rows_none, rows_room, rows_next}
 
 -- ---- so many words, by their number
 
@@ -131,8 +131,17 @@ pub ruleset part_laws = (front-both, front-begins, back-begins, row-both, row-be
 abbrev pub squeezed : RowRuns → ℕ → ℕ → List ℕ → ℕ → List ℕ
 squeezed g cells count ws b = write_items write_words (map (present_words (run_mask g)) (cut cells count (drop b ws)))
 
-abbrev pub Left : RowRuns → ℕ → List ℕ → ℕ → ℕ → List ℕ → List ℕ → ℕ → ℕ → ℕ → Type 0
-Left g cells ws b₀ count = RowsLeft (λ x. write_words (present_words (run_mask g) x) []) cells ws (squeezed g cells count ws b₀)
+abbrev pub From : RowRuns → ℕ → List ℕ → ℕ → ℕ → List ℕ → List ℕ → ℕ → ℕ → Type 0
+From g cells ws b count = RowsFrom (λ x. write_words (present_words (run_mask g) x) []) cells ws b count (squeezed g cells count ws b)
+
+-- in a turn, b being the word at which row i begins
+module _ (g : RowRuns) (cells : ℕ) (ws : List ℕ) (first count : ℕ) (h : Short g) (k : width g ≡ cells) (out₀ out : List ℕ) (at i : ℕ) (v : From g cells ws first count out₀ out at i) (l : i < count) (b : ℕ) where
+  pub from_room : b ≡ first + i * cells → Room (row_bytes g ws b) (take (length out - at) (drop at out))
+  from_room e = rows_room _ cells ws first count (squeezed g cells count ws first) out₀ out at i v l (row_bytes g ws b) b (row-piece g h ws b cells k) e
+
+  pub from_next : (zs : List ℕ) (n : ℕ) → Put (row_bytes g ws b) (take (length out - at) (drop at out)) zs n → b ≡ first + i * cells
+      → From g cells ws first count out₀ (take at out ++ (zs ++ drop (length out - at) (drop at out))) (at + n) (i + 1)
+  from_next zs n p e = rows_next _ cells ws first count (squeezed g cells count ws first) out₀ out at i v l (row_bytes g ws b) b (row-piece g h ws b cells k) e zs n p
 
 module _ (cells : ℕ) (ws : List ℕ) (first count : ℕ) (h : first + count ≤ length ws / cells) where
   pub known-there : cells * first + count * cells ≤ length ws
@@ -144,8 +153,8 @@ module _ (cells : ℕ) (ws : List ℕ) (first count : ℕ) (h : first + count �
     known-rows : write_items write_words (map (present_words m) (take count (drop first (rows_in cells ws)))) ≡ squeezed g cells count ws (cells * first)
     known-rows = rw (e, rows-from cells ws first count h)
 
-    pub known_start : (out : List ℕ) → Room (write_items write_words (map (present_words m) (take count (drop first (rows_in cells ws))))) out → Left g cells ws (cells * first) count out out 0 (cells * first) count
-    known_start out r = rows_none _ cells ws (squeezed g cells count ws (cells * first)) out (cells * first) count (rw known-rows at r) known-there (masked_each (run_mask g) (cut cells count (drop (cells * first) ws)))
+    pub known_start : (out : List ℕ) → Room (write_items write_words (map (present_words m) (take count (drop first (rows_in cells ws))))) out → From g cells ws (cells * first) count out out 0 0
+    known_start out r = rows_none _ cells ws (cells * first) count (squeezed g cells count ws (cells * first)) out (rw known-rows at r) known-there (masked_each (run_mask g) (cut cells count (drop (cells * first) ws)))
 
     pub known-put : (out put : List ℕ) (n : ℕ) → Put (squeezed g cells count ws (cells * first)) out put n → Put (write_items write_words (map (present_words m) (take count (drop first (rows_in cells ws))))) out put n
     known-put out put n p = rw known-rows p

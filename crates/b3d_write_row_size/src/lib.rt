@@ -116,10 +116,8 @@ pub fn rows_bytes(table: &[u32], which: u32, width: usize, count: usize, more: u
     ensures { RowsAdd table_most (rows_bytes which more (cut width count table.now)) result }
 {
     let mut n: usize = 0;
-    let mut i: usize = 0;
-    while i < count {
+    for i in 0..count {
         n += row_bytes(table, width * i, which, width, more);
-        i += 1;
     }
     n
 }

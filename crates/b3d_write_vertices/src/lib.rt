@@ -36,13 +36,9 @@ fn put_sets(words: &[u32], first: usize, sets: usize, size: usize, out: &mut [u8
     ensures { Put (sets_bytes sets size words.now first) out.old out.new result }
 {
     let mut at: usize = 0;
-    let mut b = first;
-    let mut left = sets;
-    while 0 < left {
-        let n = put_few(words, b, size, &mut out[at..]);
+    for i in 0..sets {
+        let n = put_few(words, first + 4 * i, size, &mut out[at..]);
         at += n;
-        b += 4;
-        left -= 1;
     }
     at
 }
@@ -87,13 +83,9 @@ pub fn put_vertex_rows(
 {
     let g = b3d_rule_row_masks::vertex_runs(flags, sets, size);
     let mut at: usize = 0;
-    let mut b = VERTEX_WIDTH * first;
-    let mut left = count;
-    while 0 < left {
-        let n = put_vertex(g, vertices, b, &mut out[at..]);
+    for i in 0..count {
+        let n = put_vertex(g, vertices, VERTEX_WIDTH * (first + i), &mut out[at..]);
         at += n;
-        b += VERTEX_WIDTH;
-        left -= 1;
     }
     at
 }

@@ -1,4 +1,8 @@
 -- The head of a file: what each step of `entry_count` says of it, and what a head that was read says of the file.
+use Rattle.layout.specs.Refused.{refusal_at}
+use Rattle.std.specs.Prelude.{Ok, Err, IfErr}
+use Rattle.std.specs.Prelude as std
+use Rattle.layout.specs.declared.Refusal.{Refusal}
 use Prim.Native.Nat.{ℕ, ◌+◌, ◌*◌, ◌<◌, ◌≤◌}
 use native.Mathlib.Omega.{arith}
 use mathlib.Core.Bool.{Bool, true, false, ◌&&◌}
@@ -20,7 +24,6 @@ use Rattle.layout.specs.Rows.{size_fits}
 use Rattle.layout.proofs.CountLaws.{row_got}
 use Rattle.shared_ids.proofs.IdLaws.{word-at}
 use Rattle.cal3d_header.specs.Heads.{head_numbers, read_head, opened_of}
-use Rattle.cal3d_header.specs.declared.Opened.TheVariants as opened
 
 head-length : (version more : ℕ) → length (head_numbers version more) ≡ 2 + more
 head-length version more = let e = length-replicate more any in omega arith
@@ -51,12 +54,12 @@ pub record HeadAt (s : List ℕ) (magic version more k : ℕ) : Type 0 where
   pub second : word_at s 8 ≡ k
 
 module _ (magic version more : ℕ) (s : List ℕ) where
-  pub head_short : length s < 12 → opened.Reject 1 0 ≡ opened_of (read_head magic version more s)
+  pub head_short : length s < 12 → Err (refusal_at 1 0) ≡ opened_of (read_head magic version more s)
   unfolding read_head check
   head_short h = rw (lt-leb 12 (length s) h)
 
   module _ (lo : 12 ≤ length s) where
-    pub head_long : 16777216 < length s → opened.Reject 1 0 ≡ opened_of (read_head magic version more s)
+    pub head_long : 16777216 < length s → Err (refusal_at 1 0) ≡ opened_of (read_head magic version more s)
     unfolding read_head check
     head_long h = rw (le-leb 12 (length s) lo, lt-leb (length s) 16777216 h)
 
@@ -70,7 +73,7 @@ module _ (magic version more : ℕ) (s : List ℕ) where
       unfolding word_at
       magic_is = word_of 1 0 s (omega arith) (omega arith) ∙ sym em
 
-      pub head_magic : (m ≡ magic → ⊥) → opened.Reject 2 0 ≡ opened_of (read_head magic version more s)
+      pub head_magic : (m ≡ magic → ⊥) → Err (refusal_at 2 0) ≡ opened_of (read_head magic version more s)
       unfolding read_head check
       head_magic h = rw (le-leb 12 (length s) lo, le-leb (length s) 16777216 hi, first_word, magic_is, ne_eqb m magic h)
 
@@ -82,7 +85,7 @@ module _ (magic version more : ℕ) (s : List ℕ) where
         inside : Inside (span 4 (length s)) (length s)
         inside = record { before = omega arith; within = omega arith }
 
-        pub head_cut : length s < 12 + 4 * more → opened.Reject 5 4 ≡ opened_of (read_head magic version more s)
+        pub head_cut : length s < 12 + 4 * more → Err (refusal_at 5 4) ≡ opened_of (read_head magic version more s)
         head_cut h =
             let l = head-length version more in
             rw (behind, row-short (head_numbers version more) 4 (left (span 4 (length s)) s) (omega (arith, left-length s (span 4 (length s)) inside)))
@@ -103,7 +106,7 @@ module _ (magic version more : ℕ) (s : List ℕ) where
               (behind ∙ rw l at (row-enough (head_numbers version more) 4 bytes (omega (arith, l)))
               ∙ head-judged version more (words_of n bytes) (record { value = words_of n bytes; place = 4 + 4 * n; left = drop (4 * n) bytes }) (length-words-of n bytes many))
 
-          pub head_version : (v ≡ version → ⊥) → opened.Reject 6 4 ≡ opened_of (read_head magic version more s)
+          pub head_version : (v ≡ version → ⊥) → Err (refusal_at 6 4) ≡ opened_of (read_head magic version more s)
           unfolding check
           head_version h = let t : eqb (word_at s 4) version ≡ false = rw (← ev) (ne_eqb v version h) in rw (numbers, t)
 
@@ -111,16 +114,16 @@ module _ (magic version more : ℕ) (s : List ℕ) where
             right : eqb (word_at s 4) version ≡ true
             right = rw (← ev) (eq-eqb v version hv)
 
-            pub head_over : 2147483647 < k → opened.Reject 6 8 ≡ opened_of (read_head magic version more s)
+            pub head_over : 2147483647 < k → Err (refusal_at 6 8) ≡ opened_of (read_head magic version more s)
             unfolding check
             head_over h = let t : leb (word_at s 8) 2147483647 ≡ false = rw (← ek) (lt-leb k 2147483647 h) in rw (numbers, right, t)
 
-            pub head_done : k ≤ 2147483647 → opened.Accept k ≡ opened_of (read_head magic version more s)
+            pub head_done : k ≤ 2147483647 → Ok k ≡ opened_of (read_head magic version more s)
             unfolding check
             head_done h =
                 let t : leb (word_at s 8) 2147483647 ≡ true = rw (← ek) (le-leb k 2147483647 h) in
                 let w : k ≡ get_or (head_of more s) 1 0 = ek ∙ sym (word-at s (span 4 (length s)) (2 + more) 1 inside (omega arith) (omega arith)) in
-                rw (numbers, right, t) (ap (λ (j : ℕ). opened.Accept j) w)
+                rw (numbers, right, t) (ap (λ (j : ℕ). Ok j) w)
 
 pub ruleset head = (head_short, head_long, head_magic, head_cut, head_version, head_over, head_done)
 
@@ -172,15 +175,19 @@ module _ (magic version more : ℕ) (s : List ℕ) (h : Step (List ℕ)) (e : re
       let w : number m 0 ≡ word_at s 0 = ap (λ (ws : List ℕ). get_or ws 0 0) v.0 ∙ magic_is magic version more s lo hi (word_at s 0) refl in
       at_least lo hi (sym w ∙ eqb→eq (number m 0) magic t))))
 
-opened_got : (o : Result (Step (List ℕ))) (k : ℕ) → opened.Accept k ≡ opened_of o → (h : Step (List ℕ)) × (o ≡ accept h) × (number h 1 ≡ k)
+opened_got : (o : Result (Step (List ℕ))) (k : ℕ) → Ok k ≡ opened_of o → (h : Step (List ℕ)) × (o ≡ accept h) × (number h 1 ≡ k)
 opened_got (accept h) k q = (h, refl, cc)
 opened_got (reject n p) k q = let z : ◌≡◌ {A = ℕ} 0 1 = cc in absurd (omega arith)
 
-pub opened-bad : (o : Result (Step (List ℕ))) (e p : ℕ) → opened.Reject e p ≡ opened_of o → o ≡ reject e p
-opened-bad (accept h) e p q = let z : ◌≡◌ {A = ℕ} 0 1 = cc in absurd (omega arith)
-opened-bad (reject n m) e p q = let a : n ≡ e = cc in let b : m ≡ p = cc in rw (a, b)
+pub opened-bad : (o : Result (Step (List ℕ))) (e : Refusal) → Err e ≡ opened_of o → o ≡ reject e.number e.place
+opened-bad (accept h) e q = let z : ◌≡◌ {A = ℕ} 0 1 = cc in absurd (omega arith)
+opened-bad (reject n m) e q = let a : n ≡ e.number = cc in let b : m ≡ e.place = cc in rw (a, b)
 
-pub opened-at : (magic version more : ℕ) (s : List ℕ) (k : ℕ) → opened.Accept k ≡ opened_of (read_head magic version more s) → HeadAt s magic version more k
+pub opened-at : (magic version more : ℕ) (s : List ℕ) (k : ℕ) → Ok k ≡ opened_of (read_head magic version more s) → HeadAt s magic version more k
 opened-at magic version more s k q =
     let g = opened_got (read_head magic version more s) k q in
     rw g.2 at (head_at magic version more s g.0 g.1)
+
+-- the place of a refusal
+pub place-fits : {A : Type 0} (r : std.Result A Refusal) → IfErr r (λ e. e.place < 4294967296) → (e : Refusal) → r ≡ Err e → e.place < 4294967296
+place-fits r h e w = rw w at h

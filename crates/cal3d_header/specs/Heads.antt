@@ -1,12 +1,13 @@
 -- A cal3d file up to its entries.
-use Rattle.std.specs.Prelude.{ℕ, List, [], ◌∷◌, length, replicate, eqb}
+use Rattle.layout.specs.Refused.{refusal_at}
+use Rattle.std.specs.Prelude as std
+use Rattle.layout.specs.declared.Refusal.{Refusal}
+use Rattle.std.specs.Prelude.{ℕ, List, [], ◌∷◌, length, replicate, eqb, Ok, Err}
 use Rattle.layout.specs.Result.{Result, accept, reject, check, ◌>>=◌}
 use Rattle.layout.specs.Parts.{Step, row, number}
 use Rattle.layout.specs.Rows.{size_fits}
 use Rattle.layout.specs.Rules.{Rule, any, exactly, count}
 use Rattle.layout.specs.Refusals as refusals
-use Rattle.cal3d_header.specs.declared.Opened.{Opened}
-use Rattle.cal3d_header.specs.declared.Opened.TheVariants as opened
 
 -- the rules of a header after the magic: version; number of entries; `more` numbers
 abbrev pub head_numbers : ℕ → ℕ → List Rule
@@ -21,6 +22,6 @@ read_head magic version more s = do
   row (head_numbers version more) m.place m.left
 
 -- what code answers for a header that was read: the number of entries, or the refusal
-abbrev pub opened_of : Result (Step (List ℕ)) → Opened
-opened_of (accept h) = opened.Accept (number h 1)
-opened_of (reject n p) = opened.Reject n p
+abbrev pub opened_of : Result (Step (List ℕ)) → std.Result ℕ Refusal
+opened_of (accept h) = Ok (number h 1)
+opened_of (reject n p) = Err (refusal_at n p)

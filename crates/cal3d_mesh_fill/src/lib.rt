@@ -94,8 +94,7 @@ pub fn fill_mesh(
         springs: 0,
         faces: 0,
     };
-    let mut i: usize = 0;
-    while i < count {
+    for i in 0..count {
         let x = shape_at(s, m.at);
         put_submesh(s, m, 9 * i, submeshes);
         let from = VertexMarks {
@@ -109,6 +108,5 @@ pub fn fill_mesh(
         cal3d_mesh_vertex_rows::put_rows(s, v.at, x.springs, 4, m.springs, springs);
         cal3d_mesh_vertex_rows::put_rows(s, v.at + 16 * x.springs, x.faces, 3, m.faces, faces);
         m = pass_submesh(m, x, v);
-        i += 1;
     }
 }

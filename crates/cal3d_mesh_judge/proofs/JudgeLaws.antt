@@ -1,4 +1,7 @@
 -- A mesh file: what each way through `judge` says of it.
+use Rattle.std.specs.Prelude.{Ok, Err}
+use Rattle.std.specs.Prelude as std
+use Rattle.layout.specs.declared.Refusal.{Refusal}
 use Prim.Native.Nat.{ℕ, zero, suc, ◌-◌, ◌<◌, ◌≤◌}
 use native.Mathlib.Omega.{arith}
 use mathlib.Core.Path.{◌≡◌, refl, ap, sym, ◌∙◌}
@@ -23,14 +26,10 @@ use Rattle.cal3d_spec.specs.Tables.{mesh_tables, mesh_rows, most_rows}
 use Rattle.cal3d_spec.specs.Answers.{judge_mesh, mesh_answer}
 use Rattle.cal3d_spec.specs.declared.MeshAnswer.{MeshAnswer}
 use Rattle.cal3d_header.specs.Heads.{read_head, opened_of}
-use Rattle.cal3d_header.specs.declared.Opened.{Opened}
-use Rattle.cal3d_header.specs.declared.Opened.TheVariants as opened
-use Rattle.cal3d_header.proofs.HeadLaws.{head_of, HeadAt, head-then, opened-bad, opened-at}
+use Rattle.cal3d_header.proofs.HeadLaws.{head_of, HeadAt, head-then, opened-bad, opened-at, place-fits}
 use Rattle.cal3d_header.proofs.FileEndLaws.{to_end, ended-bad, ended-spare, ended-done, left_over}
 use Rattle.cal3d_mesh_submesh_lists.specs.Contents.{contents_in, Contains}
 use Rattle.cal3d_mesh_submesh_lists.specs.declared.Contents.{Contents}
-use Rattle.cal3d_mesh_submesh_lists.specs.declared.Contained.{Contained}
-use Rattle.cal3d_mesh_submesh_lists.specs.declared.Contained.TheVariants as contained
 use Rattle.cal3d_mesh_submeshes.proofs.SubmeshLaws.{submesh_moves}
 use Rattle.cal3d_mesh_submeshes.proofs.TotalLaws.{contained-bad, contained_got}
 use Rattle.cal3d_mesh_judge.specs.Limits.{row_counts, first_over, accepted_as, over_as, limited_as}
@@ -82,12 +81,12 @@ two (a ∷ b ∷ d ∷ l) e = absurd (omega arith)
 answer-bad : (o : Result Mesh) (n p : ℕ) → o ≡ reject n p → (a : MeshAnswer) → a ≡ mesh_answer (reject n p) → a ≡ mesh_answer o
 answer-bad o n p e a q = q ∙ ap mesh_answer (sym e)
 
-module _ (bones : ℕ) (s : List ℕ) (r : Opened) (e : r ≡ opened_of (read_head 4607299 700 0 s)) where
-  pub judge-head : (n p : ℕ) → r ≡ opened.Reject n p → (a : MeshAnswer) → a ≡ mesh_answer (reject n p) → a ≡ mesh_answer (judge_mesh bones s)
+module _ (bones : ℕ) (s : List ℕ) (r : std.Result ℕ Refusal) (e : r ≡ opened_of (read_head 4607299 700 0 s)) where
+  pub judge-head : (n : Refusal) → r ≡ Err n → (a : MeshAnswer) → a ≡ mesh_answer (reject n.number n.place) → a ≡ mesh_answer (judge_mesh bones s)
   unfolding judge_mesh
-  judge-head n p w = answer-bad (judge_mesh bones s) n p (rw (mesh-head bones s, opened-bad (read_head 4607299 700 0 s) n p (sym w ∙ e)))
+  judge-head n w = answer-bad (judge_mesh bones s) n.number n.place (rw (mesh-head bones s, opened-bad (read_head 4607299 700 0 s) n (sym w ∙ e)))
 
-  module _ (k : ℕ) (w : r ≡ opened.Accept k) where
+  module _ (k : ℕ) (w : r ≡ Ok k) where
     head : HeadAt s 4607299 700 0 k
     head = opened-at 4607299 700 0 s k (sym w ∙ e)
 
@@ -108,7 +107,7 @@ module _ (bones : ℕ) (s : List ℕ) (r : Opened) (e : r ≡ opened_of (read_he
         let v : get_or (head_of 0 s) 0 0 ≡ 700 = word-at s (span 4 (length s)) 2 0 i (omega arith) (omega arith) ∙ head.first in
         two (head_of 0 s) l ∙ rw (v, number_is)
 
-    module _ (x : ℕ) (ex : x ≡ k) (b : ℕ) (eb : b ≡ named_bones bones) (y : Contained)
+    module _ (x : ℕ) (ex : x ≡ k) (b : ℕ) (eb : b ≡ named_bones bones) (y : std.Result (Contents × Cursor) Refusal)
         (v : Contains contents_in (times x (read_submesh b) 12 (left (record { at = 12; end = length s }) s)) (record { at = 12; end = length s }) 0 y) where
       walked : judge_mesh bones s ≡ (to_end (made_of (head_of 0 s)) (times x (read_submesh b) 12 (left (span 12 (length s)) s)) >>= limits)
       unfolding judge_mesh
@@ -116,15 +115,15 @@ module _ (bones : ℕ) (s : List ℕ) (r : Opened) (e : r ≡ opened_of (read_he
           let n : get_or (head_of 0 s) 1 0 ≡ x = number_is ∙ sym ex in
           rw (mesh-head bones s, head.is, n, eb)
 
-      pub judge-place : (n p : ℕ) → y ≡ contained.Reject n p → p < 4294967296
-      judge-place n p z = let h : p ≤ length s = rw z at v.passes in let m = judge-small in omega arith
+      pub judge-place : (n : Refusal) → y ≡ Err n → n.place < 4294967296
+      judge-place n z = let h : n.place ≤ length s = rw z at v.passes in let m = judge-small in omega arith
 
-      pub judge-walk : (n p : ℕ) → y ≡ contained.Reject n p → (a : MeshAnswer) → a ≡ mesh_answer (reject n p) → a ≡ mesh_answer (judge_mesh bones s)
-      judge-walk n p z =
-          answer-bad (judge_mesh bones s) n p
-          (walked ∙ ended-bad (made_of (head_of 0 s)) limits (times x (read_submesh b) 12 (left (span 12 (length s)) s)) n p (contained-bad contents_in (length s) (times x (read_submesh b) 12 (left (span 12 (length s)) s)) n p (sym z ∙ v.is)))
+      pub judge-walk : (n : Refusal) → y ≡ Err n → (a : MeshAnswer) → a ≡ mesh_answer (reject n.number n.place) → a ≡ mesh_answer (judge_mesh bones s)
+      judge-walk n z =
+          answer-bad (judge_mesh bones s) n.number n.place
+          (walked ∙ ended-bad (made_of (head_of 0 s)) limits (times x (read_submesh b) 12 (left (span 12 (length s)) s)) n.number n.place (contained-bad contents_in (length s) (times x (read_submesh b) 12 (left (span 12 (length s)) s)) n (sym z ∙ v.is)))
 
-      module _ (t : Contents) (c : Cursor) (z : y ≡ contained.Accept t c) where
+      module _ (t : Contents) (c : Cursor) (z : y ≡ Ok (t, c)) where
         read : (l : Step (List Submesh)) × (times x (read_submesh b) 12 (left (span 12 (length s)) s) ≡ accept l) × (t ≡ contents_in l.value) × (c ≡ record { at = l.place; end = length s })
         read = contained_got contents_in (length s) (times x (read_submesh b) 12 (left (span 12 (length s)) s)) t c (sym z ∙ v.is)
 
@@ -164,4 +163,4 @@ module _ (bones : ℕ) (s : List ℕ) (r : Opened) (e : r ≡ opened_of (read_he
           unfolding limited_as
           judge-limited a q = q ∙ sym (limits-answer made (first_over 1 (row_counts k t)) k t (ap (first_over 1) counts) answer) ∙ ap mesh_answer (sym whole)
 
-pub ruleset judges = (judge-head, judge-inside, judge-place, judge-walk, judge-spare, judge-limited)
+pub ruleset judges = (judge-head, place-fits, judge-inside, judge-place, judge-walk, judge-spare, judge-limited)

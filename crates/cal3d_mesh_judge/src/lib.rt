@@ -8,8 +8,7 @@ ghost use Rattle.cal3d_spec.specs.Answers.{judge_mesh, mesh_answer};
 ghost use Rattle.cal3d_mesh_submesh_lists.specs.Contents.{CountsWithin};
 ghost use Rattle.cal3d_mesh_judge.specs.Limits.{row_counts, first_over, accepted_as, limited_as};
 
-use cal3d_header::Opened;
-use cal3d_mesh_submesh_lists::{Contained, Contents};
+use cal3d_mesh_submesh_lists::Contents;
 use cal3d_spec::MeshAnswer;
 use layout::refusals;
 use wire::Cursor;
@@ -97,8 +96,8 @@ pub fn judge(file: &[u8], bone_count: u32) -> MeshAnswer
     ensures { result ≡ mesh_answer (judge_mesh bone_count file.now) }
 {
     match cal3d_header::entry_count(file, 0x00464D43, 700, 0) {
-        Opened::Reject(e, p) => refused(e, p),
-        Opened::Accept(submeshes) => {
+        Err(e) => refused(e.number, e.place as u32),
+        Ok(submeshes) => {
             let n = file.len();
             match cal3d_mesh_submeshes::judge_submeshes(
                 file,
@@ -106,8 +105,8 @@ pub fn judge(file: &[u8], bone_count: u32) -> MeshAnswer
                 named_bones(bone_count),
                 wire::size(submeshes),
             ) {
-                Contained::Reject(e, p) => refused(e, p as u32),
-                Contained::Accept(t, c) => {
+                Err(e) => refused(e.number, e.place as u32),
+                Ok((t, c)) => {
                     if n <= c.at {
                         return limited(submeshes, t);
                     }

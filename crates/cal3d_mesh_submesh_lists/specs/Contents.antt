@@ -1,5 +1,8 @@
 -- How many entries submeshes hold, and what the readings of submeshes answer.
-use Rattle.std.specs.Prelude.{ℕ, ◌+◌, ◌≤◌, ◌≡◌, List, [], map, length}
+use Rattle.layout.specs.Refused.{refusal_at}
+use Rattle.std.specs.Prelude as std
+use Rattle.layout.specs.declared.Refusal.{Refusal}
+use Rattle.std.specs.Prelude.{ℕ, ◌+◌, ◌≤◌, ◌≡◌, List, [], map, length, Ok, Err}
 use Rattle.wire.specs.declared.Cursor.{Cursor}
 use Rattle.layout.specs.Result.{Result, accept, reject, ◌>>=◌}
 use Rattle.layout.specs.Parts.{Step, row}
@@ -10,8 +13,6 @@ use Rattle.cal3d_spec.specs.Meshes.{Submesh, read_vertex}
 use Rattle.cal3d_spec.specs.Tables.{vertices_of}
 use Rattle.cal3d_mesh_vertices.specs.Vertices.{maps_in, influences_in}
 use Rattle.cal3d_mesh_submesh_lists.specs.declared.Contents.{Contents}
-use Rattle.cal3d_mesh_submesh_lists.specs.declared.Contained.{Contained}
-use Rattle.cal3d_mesh_submesh_lists.specs.declared.Contained.TheVariants as contained
 
 -- how many entries the submesh x holds
 unfoldable pub contents_of : Submesh → Contents
@@ -63,9 +64,9 @@ read_lists bones vertices springs maps faces p s = do
   accept (record { value = record { numbers = []; vertices = v.value; springs = g.value; faces = f.value }; place = f.place; left = f.left })
 
 -- what code answers for what was read: how many entries it holds and the cursor after it, up to the same end; or the refusal
-abbrev pub contained_of : {A : Type 0} → (A → Contents) → ℕ → Result (Step A) → Contained
-contained_of contents end (accept x) = contained.Accept (contents x.value) (record { at = x.place; end = end })
-contained_of contents end (reject n p) = contained.Reject n p
+abbrev pub contained_of : {A : Type 0} → (A → Contents) → ℕ → Result (Step A) → std.Result (Contents × Cursor) Refusal
+contained_of contents end (accept x) = Ok (contents x.value, record { at = x.place; end = end })
+contained_of contents end (reject n p) = Err (refusal_at n p)
 
 -- from c to n there are at least k bytes, and one for each entry of any one kind
 pub record Takes (c : Cursor) (k : ℕ) (t : Contents) (n : Cursor) : Type 0 where
@@ -85,12 +86,13 @@ pub record Takes (c : Cursor) (k : ℕ) (t : Contents) (n : Cursor) : Type 0 whe
   pub same : n.end ≡ c.end
 
 -- at least k bytes after c were passed, and one for each entry of any one kind; a refusal's place is not past the end
-abbrev pub ContentPasses : Cursor → ℕ → Contained → Type 0
-ContentPasses c k (contained.Accept t n) = Takes c k t n
-ContentPasses c k (contained.Reject e p) = p ≤ c.end
+abbrev pub ContentPasses : Cursor → ℕ → std.Result (Contents × Cursor) Refusal → Type 0
+ContentPasses c k (Ok (t, n)) = Takes c k t n
+ContentPasses c k (Err e) = e.place ≤ c.end
 
 -- r is what code answers for o, which was read at c and has at least k bytes
-pub record Contains {A : Type 0} (contents : A → Contents) (o : Result (Step A)) (c : Cursor) (k : ℕ) (r : Contained) : Type 0 where
+pub record Contains {A : Type 0} (contents : A → Contents) (o : Result (Step A)) (c : Cursor) (k : ℕ)
+    (r : std.Result (Contents × Cursor) Refusal) : Type 0 where
   -- r is o's numbers of entries and cursor, or its refusal
   pub is : r ≡ contained_of contents c.end o
   -- at least these bytes were passed

@@ -1,4 +1,8 @@
 -- One submesh: what each step of `judge_submesh` says of it.
+use Rattle.std.specs.Prelude.{Ok, Err}
+use Rattle.std.specs.Prelude as std
+use Rattle.cal3d_mesh_submesh_lists.specs.declared.Contents.{Contents}
+use Rattle.layout.specs.declared.Refusal.{Refusal}
 use Prim.Native.Nat.{ℕ, ◌+◌, ◌≤◌}
 use native.Mathlib.Omega.{arith}
 use mathlib.Core.Path.{◌≡◌, refl, ap, sym, ◌∙◌}
@@ -16,16 +20,12 @@ use Rattle.layout.specs.Counted.{times}
 use Rattle.layout.proofs.ResultLaws.{by_got, got_inj}
 use Rattle.layout.proofs.CountLaws.{Advances, moved_as, moved_on, row-moves, row_got, times-moves}
 use Rattle.shared_counted_lists.specs.Runs.{Passes, Runs}
-use Rattle.shared_counted_lists.specs.declared.Ran.{Ran}
-use Rattle.shared_counted_lists.specs.declared.Ran.TheVariants as ran
 use Rattle.shared_ids.proofs.IdLaws.{word-at}
 use Rattle.shared_counted_lists.proofs.RunLaws.{runs_bad, runs_place, runs_passed, runs_inside, runs_read}
 use Rattle.cal3d_spec.specs.Rules.{submesh_numbers, spring_numbers, face_numbers}
 use Rattle.cal3d_spec.specs.Meshes.{Vertex, Submesh, read_vertex, read_submesh}
 use Rattle.cal3d_mesh_vertices.proofs.VertexLaws.{vertex-moves}
 use Rattle.cal3d_mesh_submesh_lists.specs.Contents.{contents_of, read_lists, contained_of, ContentPasses, Contains}
-use Rattle.cal3d_mesh_submesh_lists.specs.declared.Contained.{Contained}
-use Rattle.cal3d_mesh_submesh_lists.specs.declared.Contained.TheVariants as contained
 
 abbrev Rows : Type 0
 Rows = List (List ℕ)
@@ -54,17 +54,17 @@ numbers-same end ws zs (accept v) t u = second (t v)
     second (reject n p) = refl
 
 -- more bytes passed on the way
-content_then : (c n : Cursor) (k : ℕ) (x : Contained) → Passes c k (ran.Accept n) → ContentPasses n 0 x → ContentPasses c k x
-content_then c n k (contained.Accept t m) h p =
+content_then : (c n : Cursor) (k : ℕ) (x : std.Result (Contents × Cursor) Refusal) → Passes c k (Ok n) → ContentPasses n 0 x → ContentPasses c k x
+content_then c n k (Ok (t, m)) h p =
     record { vertices = omega arith; maps = omega arith; influences = omega arith; springs = omega arith; faces = omega arith; before = p.before; same = p.same ∙ h.2 }
-content_then c n k (contained.Reject e q) h p = omega arith
+content_then c n k (Err e) h p = omega arith
 
-module _ (s : List ℕ) (c : Cursor) (bones : ℕ) (inside : Inside c (length s)) (r : Ran) (v : Runs (row submesh_numbers c.at (left c s)) c 24 r) where
-  pub submesh_counts : (e p : ℕ) → r ≡ ran.Reject e p → Contains contents_of (read_submesh bones c.at (left c s)) c 24 (contained.Reject e p)
+module _ (s : List ℕ) (c : Cursor) (bones : ℕ) (inside : Inside c (length s)) (r : std.Result Cursor Refusal) (v : Runs (row submesh_numbers c.at (left c s)) c 24 r) where
+  pub submesh_counts : (e : Refusal) → r ≡ Err e → Contains contents_of (read_submesh bones c.at (left c s)) c 24 (Err e)
   unfolding read_submesh
-  submesh_counts e p w = record { is = rw (runs_bad (row submesh_numbers c.at (left c s)) c 24 r v e p w); passes = runs_place (row submesh_numbers c.at (left c s)) c 24 r v e p w }
+  submesh_counts e w = record { is = rw (runs_bad (row submesh_numbers c.at (left c s)) c 24 r v e w); passes = runs_place (row submesh_numbers c.at (left c s)) c 24 r v e w }
 
-  module _ (n : Cursor) (w : r ≡ ran.Accept n) where
+  module _ (n : Cursor) (w : r ≡ Ok n) where
     pub submesh_room : (k : ℕ) → leb k 20 ≡ true → c.at + k + 4 ≤ length s
     submesh_room k l = let h = runs_passed (row submesh_numbers c.at (left c s)) c 24 r v n w in let m = leb-true k 20 l in omega arith
 
@@ -76,7 +76,7 @@ module _ (s : List ℕ) (c : Cursor) (bones : ℕ) (inside : Inside c (length s)
         (b : ℕ) (eb : b ≡ word_at s (c.at + 8)) (faces : ℕ) (fb : faces ≡ b)
         (d : ℕ) (ed : d ≡ word_at s (c.at + 16)) (springs : ℕ) (fd : springs ≡ d)
         (e : ℕ) (ee : e ≡ word_at s (c.at + 20)) (maps : ℕ) (fe : maps ≡ e) where
-      pub submesh_lists : (x : Contained) → Contains contents_of (read_lists bones vertices springs maps faces n.at (left n s)) n 0 x → Contains contents_of (read_submesh bones c.at (left c s)) c 24 x
+      pub submesh_lists : (x : std.Result (Contents × Cursor) Refusal) → Contains contents_of (read_lists bones vertices springs maps faces n.at (left n s)) n 0 x → Contains contents_of (read_submesh bones c.at (left c s)) c 24 x
       unfolding read_submesh read_lists
       submesh_lists x y =
           let h = runs_passed (row submesh_numbers c.at (left c s)) c 24 r v n w in

@@ -1,5 +1,8 @@
 -- So many submeshes: what each turn of `judge_submeshes` makes of those that are left.
-use Prim.Native.Nat.{ℕ, ◌+◌, ◌-◌, ◌<◌, ◌≤◌}
+use Rattle.std.specs.Prelude.{Ok, Err}
+use Rattle.std.specs.Prelude as std
+use Rattle.layout.specs.declared.Refusal.{Refusal}
+use Prim.Native.Nat.{ℕ, suc, ◌+◌, ◌-◌, ◌<◌, ◌≤◌}
 use native.Mathlib.Omega.{arith}
 use mathlib.Core.Path.{◌≡◌, refl, ap, sym, ◌∙◌}
 use mathlib.Core.List.{List, [], ◌∷◌, ◌++◌, map}
@@ -10,26 +13,25 @@ use Rattle.layout.specs.Result.{Result, accept, reject}
 use Rattle.layout.specs.Parts.{Step}
 use Rattle.layout.specs.Counted.{times}
 use Rattle.layout.specs.Rows.{joined}
+use Rattle.layout.proofs.AnswerLaws.{pair_inj}
 use Rattle.shared_counted_lists.proofs.WalkLaws.{mapped, Walk, walk_start, walk_none, walk_refused, walk-on}
 use Rattle.cal3d_spec.specs.Meshes.{Vertex, Submesh, read_submesh}
 use Rattle.cal3d_spec.specs.Tables.{vertices_of}
 use Rattle.cal3d_mesh_vertices.specs.Vertices.{maps_in, influences_in}
 use Rattle.cal3d_mesh_submesh_lists.specs.Contents.{contents_of, contents_in, both, CountsWithin, contained_of, Takes, ContentPasses, Contains}
 use Rattle.cal3d_mesh_submesh_lists.specs.declared.Contents.{Contents}
-use Rattle.cal3d_mesh_submesh_lists.specs.declared.Contained.{Contained}
-use Rattle.cal3d_mesh_submesh_lists.specs.declared.Contained.TheVariants as contained
 use Rattle.cal3d_mesh_submesh_lists.proofs.ListLaws.{same_contents}
 use Rattle.cal3d_mesh_submeshes.proofs.SubmeshLaws.{submesh_moves}
 
 -- ---- answers
 
-pub contained-bad : {A : Type 0} (f : A → Contents) (end : ℕ) (o : Result (Step A)) (e p : ℕ) → contained.Reject e p ≡ contained_of f end o → o ≡ reject e p
-contained-bad f end (accept x) e p q = let z : ◌≡◌ {A = ℕ} 0 1 = cc in absurd (omega arith)
-contained-bad f end (reject n m) e p q = let a : n ≡ e = cc in let b : m ≡ p = cc in rw (a, b)
+pub contained-bad : {A : Type 0} (f : A → Contents) (end : ℕ) (o : Result (Step A)) (e : Refusal) → Err e ≡ contained_of f end o → o ≡ reject e.number e.place
+contained-bad f end (accept x) e q = let z : ◌≡◌ {A = ℕ} 0 1 = cc in absurd (omega arith)
+contained-bad f end (reject n m) e q = let a : n ≡ e.number = cc in let b : m ≡ e.place = cc in rw (a, b)
 
-pub contained_got : {A : Type 0} (f : A → Contents) (end : ℕ) (o : Result (Step A)) (t : Contents) (n : Cursor) → contained.Accept t n ≡ contained_of f end o
+pub contained_got : {A : Type 0} (f : A → Contents) (end : ℕ) (o : Result (Step A)) (t : Contents) (n : Cursor) → Ok (t, n) ≡ contained_of f end o
     → (x : Step A) × (o ≡ accept x) × (t ≡ f x.value) × (n ≡ record { at = x.place; end = end })
-contained_got f end (accept x) t n q = (x, refl, cc, cc)
+contained_got f end (accept x) t n q = let z = pair_inj t (f x.value) n (record { at = x.place; end = end }) q in (x, refl, z.0, z.1)
 contained_got f end (reject m p) t n q = let z : ◌≡◌ {A = ℕ} 0 1 = cc in absurd (omega arith)
 
 -- ---- what submeshes contain
@@ -92,67 +94,72 @@ after_one : (t : Contents) (x : Submesh) (l : List Submesh) → after t (x ∷ l
 after_one t x l = ap (λ (d : Contents). both t d) (one_in x l) ∙ both_assoc t (contents_of x) (contents_in l)
 
 after_none : (end : ℕ) (o : Result (Step (List Submesh))) → contained_of contents_in end o ≡ contained_of (λ t. t) end (mapped (after none) o)
-after_none end (accept x) = ap (λ (t : Contents). contained.Accept t (record { at = x.place; end = end })) (sym (none_both (contents_in x.value)))
+after_none end (accept x) = ap (λ (t : Contents). Ok (t, record { at = x.place; end = end })) (sym (none_both (contents_in x.value)))
 after_none end (reject n p) = refl
 
--- submeshes have been passed up to c, with these contents; so many are left
-pub record Totalling (s : List ℕ) (bones n : ℕ) (from c : Cursor) (more : ℕ) (all : Contents) : Type 0 where
-  pub walk : Walk (read_submesh bones) after s n from c none more all
+-- i of n submeshes have been passed up to c, with these contents
+pub record Totalling (s : List ℕ) (bones n : ℕ) (from c : Cursor) (i : ℕ) (all : Contents) : Type 0 where
+  pub upto : i ≤ n
+  pub walk : Walk (read_submesh bones) after s n from c none (n - i) all
   pub takes : Takes from 0 all c
 
 module _ (s : List ℕ) (bones n : ℕ) (from : Cursor) where
-  pub total_start : Inside from (length s) → Totalling s bones n from from n (record { vertices = 0; maps = 0; influences = 0; springs = 0; faces = 0 })
-  total_start i =
+  pub total_start : Inside from (length s) → Totalling s bones n from from 0 (record { vertices = 0; maps = 0; influences = 0; springs = 0; faces = 0 })
+  total_start inside =
+      let e : n - 0 ≡ n = omega arith in
       record {
-        walk = walk_start (read_submesh bones) after s n from none i;
-        takes = record { vertices = omega arith; maps = omega arith; influences = omega arith; springs = omega arith; faces = omega arith; before = i.before; same = refl };
+        upto = omega arith;
+        walk = rw e (walk_start (read_submesh bones) after s n from none inside);
+        takes = record { vertices = omega arith; maps = omega arith; influences = omega arith; springs = omega arith; faces = omega arith; before = inside.before; same = refl };
       }
 
-  module _ (c : Cursor) (more : ℕ) (all : Contents) (w : Totalling s bones n from c more all) where
-    pub total_done : more ≤ 0 → Contains contents_in (times n (read_submesh bones) from.at (left from s)) from 0 (contained.Accept all c)
+  module _ (c : Cursor) (i : ℕ) (all : Contents) (w : Totalling s bones n from c i all) where
+    pub total_done : n ≤ i → Contains contents_in (times n (read_submesh bones) from.at (left from s)) from 0 (Ok (all, c))
     total_done h =
+        let over : n - i ≤ 0 = omega arith in
         let z : after all [] ≡ all = ap (λ (t : Contents). both all t) none_in ∙ both-none all in
         record {
-          is = sym (after_none from.end (times n (read_submesh bones) from.at (left from s)) ∙ rw (walk_none (read_submesh bones) after s n from c none more all w.walk h, z, ← w.walk.same));
+          is = sym (after_none from.end (times n (read_submesh bones) from.at (left from s)) ∙ rw (walk_none (read_submesh bones) after s n from c none (n - i) all w.walk over, z, ← w.walk.same));
           passes = w.takes;
         }
 
-    module _ (h : 0 < more) (r : Contained) (b : Contains contents_of (read_submesh bones c.at (left c s)) c 24 r) where
-      pub total_bad : (e p : ℕ) → r ≡ contained.Reject e p → Contains contents_in (times n (read_submesh bones) from.at (left from s)) from 0 (contained.Reject e p)
-      total_bad e p q =
-          let o = contained-bad contents_of c.end (read_submesh bones c.at (left c s)) e p (sym q ∙ b.is) in
-          let m : p ≤ c.end = rw q at b.passes in
+    module _ (h : i < n) (r : std.Result (Contents × Cursor) Refusal) (b : Contains contents_of (read_submesh bones c.at (left c s)) c 24 r) where
+      pub total_bad : (e : Refusal) → r ≡ Err e → Contains contents_in (times n (read_submesh bones) from.at (left from s)) from 0 (Err e)
+      total_bad e q =
+          let o = contained-bad contents_of c.end (read_submesh bones c.at (left c s)) e (sym q ∙ b.is) in
+          let m : e.place ≤ c.end = rw q at b.passes in
           let g = w.walk.same in
+          let some : 0 < n - i = omega arith in
           record {
-            is = sym (after_none from.end (times n (read_submesh bones) from.at (left from s)) ∙ rw (walk_refused (read_submesh bones) after s n from c none more all w.walk h e p o));
+            is = sym (after_none from.end (times n (read_submesh bones) from.at (left from s)) ∙ rw (walk_refused (read_submesh bones) after s n from c none (n - i) all w.walk some e.number e.place o));
             passes = omega arith;
           }
 
-      module _ (one : Contents) (m : Cursor) (q : r ≡ contained.Accept one m) where
-        went : ContentPasses c 24 (contained.Accept one m)
+      module _ (one : Contents) (m : Cursor) (q : r ≡ Ok (one, m)) where
+        went : ContentPasses c 24 (Ok (one, m))
         went = rw q at b.passes
 
         pub total_room : length s ≤ 18446744073709551615 → CountsWithin (both all one) 18446744073709551615
         total_room l =
             let p = went in
             let f = w.takes in
-            let i = w.walk.inside in
+            let inside = w.walk.inside in
             record { vertices = omega arith; maps = omega arith; influences = omega arith; springs = omega arith; faces = omega arith }
 
-        pub total_less : m.end - m.at < c.end - c.at
-        total_less = let p = went in omega arith
-
-        pub total_next : (t : Contents) → t ≡ both all one → Totalling s bones n from m (more - 1) t
+        pub total_next : (t : Contents) → t ≡ both all one → Totalling s bones n from m (i + 1) t
         total_next t k =
             let p = went in
             let f = w.takes in
+            let some : 0 < n - i = omega arith in
+            let less : n - i ≡ suc (n - (i + 1)) = omega arith in
             let g = contained_got contents_of c.end (read_submesh bones c.at (left c s)) one m (sym q ∙ b.is) in
             let x = g.0 in
             let at : m.at ≡ x.place = ap (λ (z : Cursor). z.at) g.3 in
             let e : both all (contents_of x.value) ≡ t = ap (λ (z : Contents). both all z) (sym g.2) ∙ sym k in
             record {
-              walk = rw e at (walk-on (read_submesh bones) after s n from c none more all w.walk h (submesh_moves bones) (λ y z. both y (contents_of z)) after_one x g.1 m at p.same p.before);
+              upto = omega arith;
+              walk = rw e at (walk-on (read_submesh bones) after s n from c none (n - i) all w.walk some (submesh_moves bones) (λ y z. both y (contents_of z)) after_one x g.1 m at p.same p.before (n - (i + 1)) less);
               takes = rw k (record { vertices = omega arith; maps = omega arith; influences = omega arith; springs = omega arith; faces = omega arith; before = p.before; same = p.same ∙ w.walk.same });
             }
 
-pub ruleset totals = (total_start, total_done, total_bad, total_less, total_next)
+pub ruleset totals = (total_start, total_done, total_bad, total_next)

@@ -110,8 +110,7 @@ pub fn put_vertices(
         maps.new influences.new result }
 {
     let mut m = from;
-    let mut i: usize = 0;
-    while i < x.vertices {
+    for i in 0..x.vertices {
         let at = m.at + 32;
         let head = at + 8 * x.maps;
         let stored = wire::number_at(s, head);
@@ -120,7 +119,6 @@ pub fn put_vertices(
         put_rows(s, at, x.maps, 2, m.maps, maps);
         put_rows(s, head + 4, n, 2, m.influences, influences);
         m = pass_vertex(x.springs, x.maps, m, n);
-        i += 1;
     }
     m
 }

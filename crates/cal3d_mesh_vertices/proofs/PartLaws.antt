@@ -1,4 +1,8 @@
 -- The parts of a vertex: what each step of `pass_mapped`, `judge_influences` and `pass_cloth` says of them.
+use Rattle.layout.specs.Refused.{refusal_at}
+use Rattle.std.specs.Prelude.{Ok, Err, Some, None}
+use Rattle.std.specs.Prelude as std
+use Rattle.layout.specs.declared.Refusal.{Refusal}
 use Prim.Native.Nat.{ℕ, zero, suc, ◌+◌, ◌-◌, ◌*◌, ◌<◌, ◌≤◌}
 use native.Mathlib.Omega.{arith}
 use mathlib.Core.Path.{◌≡◌, refl, ap, sym, subst, ◌∙◌}
@@ -6,8 +10,6 @@ use mathlib.Core.List.{List}
 use lib.ListN.{length}
 use Rattle.wire.specs.Cursors.{Inside, left, number_at}
 use Rattle.wire.specs.declared.Cursor.{Cursor}
-use Rattle.wire.specs.declared.Number.{Number}
-use Rattle.wire.specs.declared.Number.TheVariants as number
 use Rattle.layout.specs.Result.{accept, ◌>>=◌}
 use Rattle.layout.specs.Parts.{Step, row}
 use Rattle.layout.specs.Rules.{any, count}
@@ -17,9 +19,6 @@ use Rattle.layout.proofs.CountLaws.{Moved, Advances, moved_as, moved_on, row-mov
 use Rattle.shared_ids.specs.Ids.{id_row}
 use Rattle.shared_counted_lists.specs.Runs.{ran_of, Runs}
 use Rattle.shared_counted_lists.specs.Sums.{Sums}
-use Rattle.shared_counted_lists.specs.declared.Ran.{Ran}
-use Rattle.shared_counted_lists.specs.declared.Ran.TheVariants as ran
-use Rattle.shared_counted_lists.specs.declared.Summed.TheVariants as summed
 use Rattle.shared_counted_lists.proofs.NumberLaws.{head_cut, head-numbered, head_over, head-within, head_got}
 use Rattle.shared_counted_lists.proofs.RunLaws.{runs_bad, runs_place, runs_passed, runs_inside, runs_read, passes_then, ran_as}
 use Rattle.cal3d_spec.specs.Rules.{vertex_numbers, map_numbers, influences_head, influence_numbers, cloth_numbers}
@@ -28,17 +27,17 @@ use Rattle.cal3d_mesh_vertices.specs.Vertices.{read_mapped, read_influences, row
 
 -- ---- numbers and maps
 
-module _ (s : List ℕ) (c : Cursor) (vertices maps : ℕ) (inside : Inside c (length s)) (x : Ran) (u : Runs (row (vertex_numbers vertices) c.at (left c s)) c 32 x) where
-  pub mapped_numbers : (e p : ℕ) → x ≡ ran.Reject e p → Runs (read_mapped vertices maps c.at (left c s)) c (32 + maps * 8) (ran.Reject e p)
+module _ (s : List ℕ) (c : Cursor) (vertices maps : ℕ) (inside : Inside c (length s)) (x : std.Result Cursor Refusal) (u : Runs (row (vertex_numbers vertices) c.at (left c s)) c 32 x) where
+  pub mapped_numbers : (e : Refusal) → x ≡ Err e → Runs (read_mapped vertices maps c.at (left c s)) c (32 + maps * 8) (Err e)
   unfolding read_mapped
-  mapped_numbers e p w =
-      record { is = rw (runs_bad (row (vertex_numbers vertices) c.at (left c s)) c 32 x u e p w); passes = runs_place (row (vertex_numbers vertices) c.at (left c s)) c 32 x u e p w }
+  mapped_numbers e w =
+      record { is = rw (runs_bad (row (vertex_numbers vertices) c.at (left c s)) c 32 x u e w); passes = runs_place (row (vertex_numbers vertices) c.at (left c s)) c 32 x u e w }
 
-  module _ (m : Cursor) (w : x ≡ ran.Accept m) where
+  module _ (m : Cursor) (w : x ≡ Ok m) where
     pub mapped_inside : Inside m (length s)
     mapped_inside = runs_inside (row (vertex_numbers vertices) c.at (left c s)) c 32 x u m w (length s) inside
 
-    pub mapped_done : (r : Ran) → Runs (times maps (row (id_row 0 (2 - 0) 0)) m.at (left m s)) m (maps * (4 * 2)) r → Runs (read_mapped vertices maps c.at (left c s)) c (32 + maps * 8) r
+    pub mapped_done : (r : std.Result Cursor Refusal) → Runs (times maps (row (id_row 0 (2 - 0) 0)) m.at (left m s)) m (maps * (4 * 2)) r → Runs (read_mapped vertices maps c.at (left c s)) c (32 + maps * 8) r
     unfolding read_mapped
     mapped_done r v =
         let h = runs_passed (row (vertex_numbers vertices) c.at (left c s)) c 32 x u m w in
@@ -60,31 +59,31 @@ mapped_moves vertices maps p s x e =
 
 -- ---- influences
 
-module _ (s : List ℕ) (c : Cursor) (bones : ℕ) (inside : Inside c (length s)) (r : Number) (e : r ≡ number_at s c) where
-  pub influences-cut : r ≡ number.Cut → Sums row_count (read_influences bones c.at (left c s)) c 4 (summed.Reject 5 c.at)
+module _ (s : List ℕ) (c : Cursor) (bones : ℕ) (inside : Inside c (length s)) (r : std.Option (ℕ × Cursor)) (e : r ≡ number_at s c) where
+  pub influences-cut : r ≡ None → Sums row_count (read_influences bones c.at (left c s)) c 4 (Err (refusal_at 5 c.at))
   unfolding read_influences
   influences-cut w = record { is = rw (head_cut s c inside r e count w); passes = inside.before }
 
-  module _ (k : ℕ) (n : Cursor) (w : r ≡ number.Is k n) where
-    pub influences-over : 2147483647 < k → Sums row_count (read_influences bones c.at (left c s)) c 4 (summed.Reject 6 c.at)
+  module _ (k : ℕ) (n : Cursor) (w : r ≡ Some (k, n)) where
+    pub influences-over : 2147483647 < k → Sums row_count (read_influences bones c.at (left c s)) c 4 (Err (refusal_at 6 c.at))
     unfolding read_influences
     influences-over h = record { is = rw (head_over s c inside r e k n w 2147483647 h); passes = inside.before }
 
     pub influences-inside : Inside n (length s)
     influences-inside = let f = head-numbered s c inside r e k n w in record { before = omega arith; within = omega arith }
 
-    module _ (h : k ≤ 2147483647) (m : ℕ) (q : m ≡ k) (x : Ran) (v : Runs (times m (row (id_row 1 (2 - 1) bones)) n.at (left n s)) n (m * (4 * 2)) x) where
+    module _ (h : k ≤ 2147483647) (m : ℕ) (q : m ≡ k) (x : std.Result Cursor Refusal) (v : Runs (times m (row (id_row 1 (2 - 1) bones)) n.at (left n s)) n (m * (4 * 2)) x) where
       all : read_influences bones c.at (left c s) ≡ times m (row (influence_numbers bones)) n.at (left n s)
       unfolding read_influences
       all = rw (head-within s c inside r e k n w 2147483647 h, ← q)
 
-      pub influences-bad : (d p : ℕ) → x ≡ ran.Reject d p → Sums row_count (read_influences bones c.at (left c s)) c 4 (summed.Reject d p)
-      influences-bad d p z =
+      pub influences-bad : (d : Refusal) → x ≡ Err d → Sums row_count (read_influences bones c.at (left c s)) c 4 (Err d)
+      influences-bad d z =
           let f = head-numbered s c inside r e k n w in
-          let g = runs_place (times m (row (influence_numbers bones)) n.at (left n s)) n (m * 8) x v d p z in
-          record { is = rw (all, runs_bad (times m (row (influence_numbers bones)) n.at (left n s)) n (m * 8) x v d p z); passes = omega (arith, f.same) }
+          let g = runs_place (times m (row (influence_numbers bones)) n.at (left n s)) n (m * 8) x v d z in
+          record { is = rw (all, runs_bad (times m (row (influence_numbers bones)) n.at (left n s)) n (m * 8) x v d z); passes = omega (arith, f.same) }
 
-      pub influences-done : (next : Cursor) → x ≡ ran.Accept next → Sums row_count (read_influences bones c.at (left c s)) c 4 (summed.Accept m next)
+      pub influences-done : (next : Cursor) → x ≡ Ok next → Sums row_count (read_influences bones c.at (left c s)) c 4 (Ok (m, next))
       influences-done next z =
           let f = head-numbered s c inside r e k n w in
           let g = runs_passed (times m (row (influence_numbers bones)) n.at (left n s)) n (m * 8) x v next z in
@@ -102,20 +101,20 @@ influences-moves bones p s x e =
 -- ---- the cloth weight
 
 module _ (s : List ℕ) (c : Cursor) (springs : ℕ) (inside : Inside c (length s)) where
-  pub cloth-none : springs ≤ 0 → Runs (read_cloth springs c.at (left c s)) c 0 (ran.Accept c)
+  pub cloth-none : springs ≤ 0 → Runs (read_cloth springs c.at (left c s)) c 0 (Ok c)
   unfolding read_cloth
   cloth-none h = let e : springs ≡ 0 = omega arith in record { is = rw e; passes = (omega arith, inside.before, refl) }
 
-  module _ (h : 0 < springs) (r : Number) (e : r ≡ number_at s c) where
+  module _ (h : 0 < springs) (r : std.Option (ℕ × Cursor)) (e : r ≡ number_at s c) where
     some : (n : ℕ) → n ≡ springs → (read_cloth springs c.at (left c s) ≡ (row cloth_numbers c.at (left c s) >>= λ w. accept (record { value = Rattle.layout.specs.Parts.number w 0; place = w.place; left = w.left })))
     unfolding read_cloth
     some zero q = absurd (omega arith)
     some (suc n) q = rw (← q)
 
-    pub cloth-cut : r ≡ number.Cut → Runs (read_cloth springs c.at (left c s)) c 0 (ran.Reject 5 c.at)
+    pub cloth-cut : r ≡ None → Runs (read_cloth springs c.at (left c s)) c 0 (Err (refusal_at 5 c.at))
     cloth-cut w = record { is = rw (some springs refl, head_cut s c inside r e any w); passes = inside.before }
 
-    pub cloth-done : (k : ℕ) (n : Cursor) → r ≡ number.Is k n → Runs (read_cloth springs c.at (left c s)) c 0 (ran.Accept n)
+    pub cloth-done : (k : ℕ) (n : Cursor) → r ≡ Some (k, n) → Runs (read_cloth springs c.at (left c s)) c 0 (Ok n)
     cloth-done k n w =
         let f = head-numbered s c inside r e k n w in
         record { is = rw (some springs refl, head_got s c inside r e k n w any refl, ← f.same); passes = (omega (arith, f.to), omega (arith, f.to, f.same, f.room), f.same) }

@@ -1,5 +1,8 @@
 -- A vertex by its parts: what each step of `judge_vertex` says of it; and how the influences of vertices are counted.
-use Prim.Native.Nat.{ℕ, ◌+◌, ◌*◌, ◌<◌}
+use Rattle.std.specs.Prelude.{Ok, Err}
+use Rattle.std.specs.Prelude as std
+use Rattle.layout.specs.declared.Refusal.{Refusal}
+use Prim.Native.Nat.{ℕ, ◌+◌, ◌*◌}
 use native.Mathlib.Omega.{arith}
 use mathlib.Core.Path.{◌≡◌, refl, ap, sym, ◌∙◌}
 use mathlib.Core.List.{List, [], ◌∷◌, map}
@@ -14,10 +17,6 @@ use Rattle.layout.proofs.ResultLaws.{by_got, got_inj, bind_bind, bind_cong}
 use Rattle.layout.proofs.CountLaws.{Advances, moved_as, moved_on}
 use Rattle.shared_counted_lists.specs.Runs.{Passes, Runs}
 use Rattle.shared_counted_lists.specs.Sums.{summed_of, SumPasses, Sums}
-use Rattle.shared_counted_lists.specs.declared.Ran.{Ran}
-use Rattle.shared_counted_lists.specs.declared.Ran.TheVariants as ran
-use Rattle.shared_counted_lists.specs.declared.Summed.{Summed}
-use Rattle.shared_counted_lists.specs.declared.Summed.TheVariants as summed
 use Rattle.shared_counted_lists.proofs.RunLaws.{Read, runs_bad, runs_place, runs_passed, runs_inside, runs_read}
 use Rattle.shared_counted_lists.proofs.SumLaws.{Adds, SumRead, summed_bad, summed_place, summed_passed, summed_read}
 use Rattle.cal3d_spec.specs.Rules.{vertex_numbers, map_numbers, influences_head, influence_numbers}
@@ -64,34 +63,34 @@ vertex-moves bones vertices springs maps p s x e =
     let q = got_inj e₃ in
     moved_as w x k (cc) (cc))))
 
-module _ (s : List ℕ) (c : Cursor) (bones vertices springs maps : ℕ) (inside : Inside c (length s)) (r : Ran) (v : Runs (read_mapped vertices maps c.at (left c s)) c (32 + maps * 8) r) where
+module _ (s : List ℕ) (c : Cursor) (bones vertices springs maps : ℕ) (inside : Inside c (length s)) (r : std.Result Cursor Refusal) (v : Runs (read_mapped vertices maps c.at (left c s)) c (32 + maps * 8) r) where
   parts : read_vertex bones vertices springs maps c.at (left c s)
       ≡ (read_mapped vertices maps c.at (left c s) >>= λ y. read_influences bones y.place y.left >>= λ i. read_cloth springs i.place i.left >>= λ w. accept (made bones vertices springs maps c.at (left c s) y.value i.value w))
   parts = vertex-parts bones vertices springs maps c.at (left c s)
 
-  pub vertex_mapped : (e p : ℕ) → r ≡ ran.Reject e p → Sums influence_count (read_vertex bones vertices springs maps c.at (left c s)) c (36 + maps * 8) (summed.Reject e p)
-  vertex_mapped e p w =
-      record { is = rw (parts, runs_bad (read_mapped vertices maps c.at (left c s)) c (32 + maps * 8) r v e p w); passes = runs_place (read_mapped vertices maps c.at (left c s)) c (32 + maps * 8) r v e p w }
+  pub vertex_mapped : (e : Refusal) → r ≡ Err e → Sums influence_count (read_vertex bones vertices springs maps c.at (left c s)) c (36 + maps * 8) (Err e)
+  vertex_mapped e w =
+      record { is = rw (parts, runs_bad (read_mapped vertices maps c.at (left c s)) c (32 + maps * 8) r v e w); passes = runs_place (read_mapped vertices maps c.at (left c s)) c (32 + maps * 8) r v e w }
 
-  module _ (n : Cursor) (w : r ≡ ran.Accept n) where
+  module _ (n : Cursor) (w : r ≡ Ok n) where
     pub vertex-inside : Inside n (length s)
     vertex-inside = runs_inside (read_mapped vertices maps c.at (left c s)) c (32 + maps * 8) r v n w (length s) inside
 
-    went : Passes c (32 + maps * 8) (ran.Accept n)
+    went : Passes c (32 + maps * 8) (Ok n)
     went = runs_passed (read_mapped vertices maps c.at (left c s)) c (32 + maps * 8) r v n w
 
     first : Read s (read_mapped vertices maps c.at (left c s)) c n
     first = runs_read (read_mapped vertices maps) (mapped_moves vertices maps) s c inside (32 + maps * 8) r v n w
 
-    module _ (x : Summed) (u : Sums row_count (read_influences bones n.at (left n s)) n 4 x) where
-      pub vertex-influences : (e p : ℕ) → x ≡ summed.Reject e p → Sums influence_count (read_vertex bones vertices springs maps c.at (left c s)) c (36 + maps * 8) (summed.Reject e p)
-      vertex-influences e p z =
+    module _ (x : std.Result (ℕ × Cursor) Refusal) (u : Sums row_count (read_influences bones n.at (left n s)) n 4 x) where
+      pub vertex-influences : (e : Refusal) → x ≡ Err e → Sums influence_count (read_vertex bones vertices springs maps c.at (left c s)) c (36 + maps * 8) (Err e)
+      vertex-influences e z =
           let h = went in
-          let k = summed_place row_count (read_influences bones n.at (left n s)) n 4 x u e p z in
-          record { is = rw (parts, first.is, summed_bad row_count n.end (read_influences bones n.at (left n s)) e p (sym z ∙ u.is)); passes = omega arith }
+          let k = summed_place row_count (read_influences bones n.at (left n s)) n 4 x u e z in
+          record { is = rw (parts, first.is, summed_bad row_count n.end (read_influences bones n.at (left n s)) e (sym z ∙ u.is)); passes = omega arith }
 
-      module _ (j : ℕ) (m : Cursor) (z : x ≡ summed.Accept j m) where
-        went_on : SumPasses n 4 (summed.Accept j m)
+      module _ (j : ℕ) (m : Cursor) (z : x ≡ Ok (j, m)) where
+        went_on : SumPasses n 4 (Ok (j, m))
         went_on = summed_passed row_count (read_influences bones) (influences-moves bones) s n 4 x u j m z
 
         second : SumRead row_count s (read_influences bones n.at (left n s)) j m
@@ -100,15 +99,15 @@ module _ (s : List ℕ) (c : Cursor) (bones vertices springs maps : ℕ) (inside
         pub vertex-weighed : Inside m (length s)
         vertex-weighed = let i = vertex-inside in let h = went_on in record { before = h.1; within = omega arith }
 
-        module _ (y : Ran) (f : Runs (read_cloth springs m.at (left m s)) m 0 y) where
-          pub vertex-cloth : (e p : ℕ) → y ≡ ran.Reject e p → Sums influence_count (read_vertex bones vertices springs maps c.at (left c s)) c (36 + maps * 8) (summed.Reject e p)
-          vertex-cloth e p g =
+        module _ (y : std.Result Cursor Refusal) (f : Runs (read_cloth springs m.at (left m s)) m 0 y) where
+          pub vertex-cloth : (e : Refusal) → y ≡ Err e → Sums influence_count (read_vertex bones vertices springs maps c.at (left c s)) c (36 + maps * 8) (Err e)
+          vertex-cloth e g =
               let h = went in
               let k = went_on in
-              let l = runs_place (read_cloth springs m.at (left m s)) m 0 y f e p g in
-              record { is = rw (parts, first.is, second.is, runs_bad (read_cloth springs m.at (left m s)) m 0 y f e p g); passes = omega arith }
+              let l = runs_place (read_cloth springs m.at (left m s)) m 0 y f e g in
+              record { is = rw (parts, first.is, second.is, runs_bad (read_cloth springs m.at (left m s)) m 0 y f e g); passes = omega arith }
 
-          pub vertex-done : (next : Cursor) → y ≡ ran.Accept next → Sums influence_count (read_vertex bones vertices springs maps c.at (left c s)) c (36 + maps * 8) (summed.Accept j next)
+          pub vertex-done : (next : Cursor) → y ≡ Ok next → Sums influence_count (read_vertex bones vertices springs maps c.at (left c s)) c (36 + maps * 8) (Ok (j, next))
           vertex-done next g =
               let h = went in
               let k = went_on in
@@ -117,8 +116,8 @@ module _ (s : List ℕ) (c : Cursor) (bones vertices springs maps : ℕ) (inside
               let end : next.end ≡ c.end = l.2 ∙ k.2 ∙ h.2 in
               let whole : read_vertex bones vertices springs maps c.at (left c s) ≡ accept (made bones vertices springs maps c.at (left c s) first.value second.value (record { value = t.value; place = next.at; left = left next s })) = rw (parts, first.is, second.is, t.is) in
               record {
-                is = ap (λ (i : ℕ). summed.Accept i next) second.many
-                    ∙ ap (λ (i : ℕ). summed.Accept (length second.value) (record { at = next.at; end = i })) end
+                is = ap (λ (i : ℕ). Ok (i, next)) second.many
+                    ∙ ap (λ (i : ℕ). Ok (length second.value, record { at = next.at; end = i })) end
                     ∙ ap (summed_of influence_count c.end) (sym whole);
                 passes = (omega arith, l.1, end);
               }
@@ -137,7 +136,3 @@ more-influences x l = length-append x.influences (joined (map (λ (y : Vertex). 
 
 pub vertex_adds : (bones vertices springs maps : ℕ) → Adds (read_vertex bones vertices springs maps) influence_count influences_in
 vertex_adds bones vertices springs maps = record { moves = vertex-moves bones vertices springs maps; one = more-influences }
-
--- a vertex takes bytes
-pub vertex-bytes : (maps : ℕ) → 0 < 36 + maps * 8
-vertex-bytes maps = omega arith

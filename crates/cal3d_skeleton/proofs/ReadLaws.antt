@@ -1,4 +1,7 @@
 -- The tables of a skeleton file: what each way through `read_skeleton` says of them.
+use Rattle.std.specs.Prelude.{Ok, Err}
+use Rattle.std.specs.Prelude as std
+use Rattle.layout.specs.declared.Refusal.{Refusal}
 use Prim.Native.Nat.{ℕ, ◌*◌, ◌/◌, ◌<◌, ◌≤◌}
 use native.Mathlib.Omega.{arith}
 use mathlib.Core.Bool.{Bool, true, false}
@@ -18,8 +21,6 @@ use Rattle.cal3d_spec.specs.declared.SkeletonAnswer.{SkeletonAnswer}
 use Rattle.cal3d_skeleton_bones.specs.Bones.{children_in}
 use Rattle.cal3d_skeleton_limits.specs.Verdicts.{verdict_of}
 use Rattle.cal3d_skeleton_limits.specs.declared.SkeletonSummary.{SkeletonSummary}
-use Rattle.cal3d_skeleton_limits.specs.declared.SkeletonVerdict.{SkeletonVerdict}
-use Rattle.cal3d_skeleton_limits.specs.declared.SkeletonVerdict.TheVariants as verdict
 use Rattle.cal3d_skeleton_limits.proofs.FileLaws.{bone-rows}
 use Rattle.cal3d_skeleton_limits.proofs.GoodLaws.{BonesStand}
 use Rattle.cal3d_skeleton_tree_file.specs.Links.{GoodBones, bones_at}
@@ -53,12 +54,12 @@ both-rooms t true true = refl
 both-rooms t true false = refl
 both-rooms t false q = refl
 
-module _ (s b k : List ℕ) (v : SkeletonVerdict) (e : v ≡ verdict_of (judge_skeleton s)) where
-  pub read-refused : (n p : ℕ) → v ≡ verdict.Reject n p → (r : SkeletonAnswer) → r ≡ skeleton_answer (reject n p) → ReadsSkeleton s b k b k r
+module _ (s b k : List ℕ) (v : std.Result SkeletonSummary Refusal) (e : v ≡ verdict_of (judge_skeleton s)) where
+  pub read-refused : (n : Refusal) → v ≡ Err n → (r : SkeletonAnswer) → r ≡ skeleton_answer (reject n.number n.place) → ReadsSkeleton s b k b k r
   unfolding read_skeleton
-  read-refused n p w r q = refused_as s b k n p r (rw (refused-bad s v e n p w)) q
+  read-refused n w r q = refused_as s b k n.number n.place r (rw (refused-bad s v e n w)) q
 
-  module _ (x : SkeletonSummary) (w : v ≡ verdict.Accept x) where
+  module _ (x : SkeletonSummary) (w : v ≡ Ok x) where
     t : Skeleton
     t = (accepted-good s v e x w).0
 

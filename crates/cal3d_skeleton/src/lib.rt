@@ -1,16 +1,15 @@
 // The reader of skeleton files: bones and children into lent tables, with 02's answer to every file and to tables of every length.
 #![tactic(auto)]
 
-ghost use Rattle.std.specs.Prelude.{◌≡◌, ◌≤◌};
+ghost use Rattle.std.specs.Prelude.{◌≡◌, ◌<◌, ◌≤◌, IfErr};
 ghost use Rattle.layout.specs.Result.{reject};
 ghost use Rattle.cal3d_spec.specs.Answers.{judge_skeleton, skeleton_answer};
 ghost use Rattle.cal3d_skeleton_limits.specs.Verdicts.{verdict_of};
 ghost use Rattle.cal3d_skeleton.specs.Skeletons.{accepted_as, ReadsSkeleton};
 
-use cal3d_skeleton_limits::{SkeletonSummary, SkeletonVerdict};
-use cal3d_skeleton_tree_file::Told;
+use cal3d_skeleton_limits::SkeletonSummary;
 use cal3d_spec::SkeletonAnswer;
-use layout::refusals;
+use layout::{Refusal, refusals};
 use wire::Cursor;
 
 // Returns the answer of a refusal with `number` at `place`.
@@ -38,21 +37,16 @@ fn accepted(x: SkeletonSummary) -> SkeletonAnswer
     }
 }
 
-// Judges `file`: returns its summary, or the first of its refusals 1 to 10, then 16.
-fn judged(file: &[u8]) -> SkeletonVerdict
-    ensures { result ≡ verdict_of (judge_skeleton file.now) }
+// Judges `file`: returns its summary, or the first of its refusals 1 to 10, then 16, whose place fits in 32 bits.
+fn judged(file: &[u8]) -> Result<SkeletonSummary, Refusal>
+    ensures value { result ≡ verdict_of (judge_skeleton file.now) }
+    ensures place_fits { IfErr result (λ e. e.place < 4294967296) }
 {
-    match cal3d_skeleton_limits::limited(file) {
-        SkeletonVerdict::Reject(number, place) => SkeletonVerdict::Reject(number, place),
-        SkeletonVerdict::Accept(x) => {
-            let bones = wire::size(x.bones);
-            let end = file.len();
-            match cal3d_skeleton_tree_file::same_trees(file, Cursor { at: 24, end }, bones) {
-                Told::Reject(number, place) => SkeletonVerdict::Reject(number, place),
-                Told::Accept => SkeletonVerdict::Accept(x),
-            }
-        }
-    }
+    let x = cal3d_skeleton_limits::limited(file)?;
+    let bones = wire::size(x.bones);
+    let end = file.len();
+    cal3d_skeleton_tree_file::same_trees(file, Cursor { at: 24, end }, bones)?;
+    Ok(x)
 }
 
 // Judges `file` without any table: answers 1 to 10 or 16, or 0 with the header's numbers and the counts.
@@ -60,8 +54,8 @@ pub fn judge(file: &[u8]) -> SkeletonAnswer
     ensures { result ≡ skeleton_answer (judge_skeleton file.now) }
 {
     match judged(file) {
-        SkeletonVerdict::Reject(number, place) => refused(number, place),
-        SkeletonVerdict::Accept(x) => accepted(x),
+        Err(e) => refused(e.number, e.place as u32),
+        Ok(x) => accepted(x),
     }
 }
 
@@ -71,8 +65,8 @@ pub fn read_skeleton(file: &[u8], bones: &mut [u32], children: &mut [u32]) -> Sk
     ensures { ReadsSkeleton file.now bones.old children.old bones.new children.new result }
 {
     match judged(file) {
-        SkeletonVerdict::Reject(number, place) => refused(number, place),
-        SkeletonVerdict::Accept(x) => {
+        Err(e) => refused(e.number, e.place as u32),
+        Ok(x) => {
             let count = wire::size(x.bones);
             if bones.len() / 23 < count {
                 return refused(refusals::TOO_SHORT, 1);

@@ -1,4 +1,7 @@
 -- One bone: what each step of `judge_bone` says of it.
+use Rattle.std.specs.Prelude.{Ok, Err}
+use Rattle.std.specs.Prelude as std
+use Rattle.layout.specs.declared.Refusal.{Refusal}
 use Prim.Native.Nat.{ℕ, ◌+◌, ◌≤◌}
 use native.Mathlib.Omega.{arith}
 use mathlib.Core.Path.{◌≡◌, refl, ap, ◌∙◌}
@@ -12,15 +15,11 @@ use Rattle.layout.specs.Counted.{sized, times}
 use Rattle.layout.proofs.ResultLaws.{by_got, got_inj}
 use Rattle.layout.proofs.CountLaws.{Advances, moved_as, moved_on, row-moves, sized-moves, times-moves}
 use Rattle.shared_counted_lists.specs.Runs.{Runs}
-use Rattle.shared_counted_lists.specs.declared.Ran.{Ran}
-use Rattle.shared_counted_lists.specs.declared.Ran.TheVariants as ran
 use Rattle.shared_counted_lists.proofs.RunLaws.{runs_bad, runs_place, runs_passed, runs_inside, runs_read}
 use Rattle.cal3d_spec.specs.Rules.{bone_numbers, children_at, child_numbers}
 use Rattle.cal3d_spec.specs.Skeletons.{read_bone}
 use Rattle.shared_counted_lists.specs.Sums.{summed_of, SumPasses, Sums}
 use Rattle.cal3d_skeleton_bones.specs.Bones.{read_links, link_count, child_count}
-use Rattle.shared_counted_lists.specs.declared.Summed.{Summed}
-use Rattle.shared_counted_lists.specs.declared.Summed.TheVariants as summed
 
 -- a bone behind its name, and its numbers and children alone, count and end alike
 links_same : (end p : ℕ) (n : Name) (m : Result (Step (List ℕ))) (t : Step (List ℕ) → Result (Step (List (List ℕ))))
@@ -36,20 +35,20 @@ links_same end p n (accept x) t = go (t x)
     go (reject e q) = refl
 
 -- more bytes passed on the way
-passes_on : (c n : Cursor) (k : ℕ) (x : Summed) → c.at + k ≤ n.at → n.end ≡ c.end → SumPasses n 80 x → SumPasses c (k + 80) x
-passes_on c n k (summed.Accept j m) h e p = (omega arith, p.1, p.2 ∙ e)
-passes_on c n k (summed.Reject m q) h e p = omega arith
+passes_on : (c n : Cursor) (k : ℕ) (x : std.Result (ℕ × Cursor) Refusal) → c.at + k ≤ n.at → n.end ≡ c.end → SumPasses n 80 x → SumPasses c (k + 80) x
+passes_on c n k (Ok (j, m)) h e p = (omega arith, p.1, p.2 ∙ e)
+passes_on c n k (Err f) h e p = omega arith
 
-module _ (s : List ℕ) (c : Cursor) (bones : ℕ) (inside : Inside c (length s)) (r : Ran) (v : Runs (sized c.at (left c s)) c 4 r) where
-  pub bone-bad : (e p : ℕ) → r ≡ ran.Reject e p → Sums child_count (read_bone bones c.at (left c s)) c 84 (summed.Reject e p)
+module _ (s : List ℕ) (c : Cursor) (bones : ℕ) (inside : Inside c (length s)) (r : std.Result Cursor Refusal) (v : Runs (sized c.at (left c s)) c 4 r) where
+  pub bone-bad : (e : Refusal) → r ≡ Err e → Sums child_count (read_bone bones c.at (left c s)) c 84 (Err e)
   unfolding read_bone
-  bone-bad e p w = record { is = rw (runs_bad (sized c.at (left c s)) c 4 r v e p w); passes = runs_place (sized c.at (left c s)) c 4 r v e p w }
+  bone-bad e w = record { is = rw (runs_bad (sized c.at (left c s)) c 4 r v e w); passes = runs_place (sized c.at (left c s)) c 4 r v e w }
 
-  module _ (n : Cursor) (w : r ≡ ran.Accept n) where
+  module _ (n : Cursor) (w : r ≡ Ok n) where
     pub numbers_inside : Inside n (length s)
     numbers_inside = runs_inside (sized c.at (left c s)) c 4 r v n w (length s) inside
 
-    pub bone_links : (x : Summed) → Sums link_count (read_links bones n.at (left n s)) n 80 x → Sums child_count (read_bone bones c.at (left c s)) c 84 x
+    pub bone_links : (x : std.Result (ℕ × Cursor) Refusal) → Sums link_count (read_links bones n.at (left n s)) n 80 x → Sums child_count (read_bone bones c.at (left c s)) c 84 x
     unfolding read_bone read_links
     bone_links x b =
         let h = runs_passed (sized c.at (left c s)) c 4 r v n w in

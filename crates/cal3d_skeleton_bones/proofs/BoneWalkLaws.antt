@@ -13,7 +13,6 @@ use Rattle.layout.proofs.ResultLaws.{got_inj}
 use Rattle.layout.proofs.CountLaws.{times_none, times_got}
 use Rattle.cal3d_spec.specs.Skeletons.{Bone, read_bone}
 use Rattle.cal3d_skeleton_bones.specs.Bones.{LaidAt, NoBone, BonesRead, bones_in}
-use Rattle.cal3d_skeleton_bones.specs.declared.Laid.TheVariants as laid
 
 -- i of so many bones are passed, up to c: those are `done`, `rest` are the others
 pub record Walked (s : List ℕ) (bones : ℕ) (all : List Bone) (c : Cursor) (i : ℕ) (done : List Bone) (rest : Step (List Bone)) : Type 0 where

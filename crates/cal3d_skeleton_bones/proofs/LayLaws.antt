@@ -1,4 +1,7 @@
 -- One bone's parts: what each step of `lay_bone` says of the bone that stands there.
+use Rattle.std.specs.Prelude.{Ok, Err}
+use Rattle.std.specs.Prelude as std
+use Rattle.layout.specs.declared.Refusal.{Refusal}
 use Prim.Native.Nat.{ℕ, zero, suc, ◌+◌, ◌-◌, ◌<◌, ◌≤◌}
 use native.Mathlib.Omega.{arith}
 use mathlib.Core.Path.{◌≡◌, refl, ap, sym, ◌∙◌}
@@ -9,7 +12,7 @@ use Rattle.wire.specs.Bytes.{word}
 use Rattle.wire.specs.Cursors.{Inside, left}
 use Rattle.wire.specs.declared.Cursor.{Cursor}
 use Rattle.wire.proofs.LeftLaws.{left-length, left-drop}
-use Rattle.layout.specs.Result.{Result, accept, reject, ◌>>=◌}
+use Rattle.layout.specs.Result.{Result, accept, reject}
 use Rattle.layout.specs.Parts.{Name, Step, words_of, words, judged, row, number}
 use Rattle.layout.specs.Counted.{sized, before, times}
 use Rattle.layout.specs.Rows.{name_cells, joined}
@@ -18,16 +21,12 @@ use Rattle.layout.proofs.AllLaws.{All}
 use Rattle.layout.proofs.ResultLaws.{by_got, by-check, bad_got, got_inj}
 use Rattle.layout.proofs.CountLaws.{moved_on, row-moves, row_got, times-moves, times-length, times_got, sized-moves, sized_got}
 use Rattle.shared_counted_lists.specs.Runs.{Runs}
-use Rattle.shared_counted_lists.specs.declared.Ran.{Ran}
-use Rattle.shared_counted_lists.specs.declared.Ran.TheVariants as ran
 use Rattle.shared_ids.proofs.IdLaws.{word-at}
 use Rattle.shared_counted_lists.proofs.RunLaws.{runs_bad, runs_passed, runs_inside, runs_read}
 use Rattle.cal3d_spec.specs.Rules.{bone_numbers, children_at, child_numbers}
 use Rattle.cal3d_spec.specs.Skeletons.{parent_of, list_of, read_bone}
 use Rattle.shared_counted_lists.specs.Sums.{Sums}
 use Rattle.cal3d_skeleton_bones.specs.Bones.{read_links, link_count, LaidAt, NoBone}
-use Rattle.shared_counted_lists.specs.declared.Summed.{Summed}
-use Rattle.shared_counted_lists.specs.declared.Summed.TheVariants as summed
 use Rattle.shared_counted_lists.proofs.SumLaws.{summed_bad, summed_got}
 
 -- one id, and then others
@@ -64,11 +63,11 @@ record Linked (s : List ℕ) (n : Cursor) (bones j : ℕ) (m : Cursor) : Type 0 
   at : children.place ≡ m.at
   left_over : children.left ≡ left m s
 
-module _ (s : List ℕ) (n : Cursor) (bones : ℕ) (x : Summed) (b : Sums link_count (read_links bones n.at (left n s)) n 80 x) where
-  no_links : (e p : ℕ) → x ≡ summed.Reject e p → read_links bones n.at (left n s) ≡ reject e p
-  no_links e p q = summed_bad link_count n.end (read_links bones n.at (left n s)) e p (sym q ∙ b.is)
+module _ (s : List ℕ) (n : Cursor) (bones : ℕ) (x : std.Result (ℕ × Cursor) Refusal) (b : Sums link_count (read_links bones n.at (left n s)) n 80 x) where
+  no_links : (e : Refusal) → x ≡ Err e → read_links bones n.at (left n s) ≡ reject e.number e.place
+  no_links e q = summed_bad link_count n.end (read_links bones n.at (left n s)) e (sym q ∙ b.is)
 
-  linked : (j : ℕ) (m : Cursor) → x ≡ summed.Accept j m → Linked s n bones j m
+  linked : (j : ℕ) (m : Cursor) → x ≡ Ok (j, m) → Linked s n bones j m
   unfolding read_links
   linked j m q =
       let g = summed_got link_count n.end (read_links bones n.at (left n s)) j m (sym q ∙ b.is) in
@@ -90,18 +89,18 @@ module _ (s : List ℕ) (n : Cursor) (bones : ℕ) (x : Summed) (b : Sums link_c
         left_over = k.rest ∙ sym (left-drop s n k.by m (a ∙ sym p ∙ k.to) e);
       }))
 
-module _ (s : List ℕ) (c : Cursor) (bones : ℕ) (inside : Inside c (length s)) (r : Ran) (v : Runs (sized c.at (left c s)) c 4 r) where
-  pub lay_no_name : (e p : ℕ) → r ≡ ran.Reject e p → NoBone (read_bone bones c.at (left c s))
+module _ (s : List ℕ) (c : Cursor) (bones : ℕ) (inside : Inside c (length s)) (r : std.Result Cursor Refusal) (v : Runs (sized c.at (left c s)) c 4 r) where
+  pub lay_no_name : (e : Refusal) → r ≡ Err e → NoBone (read_bone bones c.at (left c s))
   unfolding read_bone
-  lay_no_name e p w = let z : read_bone bones c.at (left c s) ≡ reject e p = rw (runs_bad (sized c.at (left c s)) c 4 r v e p w) in record { none = λ x q. bad_got (sym z ∙ q) }
+  lay_no_name e w = let z : read_bone bones c.at (left c s) ≡ reject e.number e.place = rw (runs_bad (sized c.at (left c s)) c 4 r v e w) in record { none = λ x q. bad_got (sym z ∙ q) }
 
-  module _ (n : Cursor) (w : r ≡ ran.Accept n) (x : Summed) (b : Sums link_count (read_links bones n.at (left n s)) n 80 x) where
-    pub lay_no_links : (e p : ℕ) → x ≡ summed.Reject e p → NoBone (read_bone bones c.at (left c s))
+  module _ (n : Cursor) (w : r ≡ Ok n) (x : std.Result (ℕ × Cursor) Refusal) (b : Sums link_count (read_links bones n.at (left n s)) n 80 x) where
+    pub lay_no_links : (e : Refusal) → x ≡ Err e → NoBone (read_bone bones c.at (left c s))
     unfolding read_bone read_links
-    lay_no_links e p q =
+    lay_no_links e q =
         record {
           none = λ z f. let y = runs_read sized sized-moves s c inside 4 r v n w in
-              let g = no_links s n bones x b e p q in
+              let g = no_links s n bones x b e q in
               by_got (sized c.at (left c s)) _ f (λ u eu f₁.
               let same = got_inj (sym eu ∙ y.is) in
               by_got (row (bone_numbers bones) u.place u.left) _ f₁ (λ h eh f₂.
@@ -111,7 +110,7 @@ module _ (s : List ℕ) (c : Cursor) (bones : ℕ) (inside : Inside c (length s)
               bad_got (sym g ∙ all))));
         }
 
-    pub lay_at : (j : ℕ) (m : Cursor) → x ≡ summed.Accept j m → LaidAt s bones (read_bone bones c.at (left c s)) c n.at j m
+    pub lay_at : (j : ℕ) (m : Cursor) → x ≡ Ok (j, m) → LaidAt s bones (read_bone bones c.at (left c s)) c n.at j m
     unfolding name_cells read_bone parent_of list_of
     lay_at j m q =
         let h = runs_passed (sized c.at (left c s)) c 4 r v n w in

@@ -1,4 +1,7 @@
 -- A bone's numbers and its children: what each step of `judge_links` says of them.
+use Rattle.std.specs.Prelude.{Ok, Err}
+use Rattle.std.specs.Prelude as std
+use Rattle.layout.specs.declared.Refusal.{Refusal}
 use Prim.Native.Nat.{ℕ, ◌+◌, ◌-◌, ◌*◌, ◌<◌, ◌≤◌}
 use native.Mathlib.Omega.{arith}
 use mathlib.Core.Bool.{Bool, true, false, ◌||◌}
@@ -20,15 +23,12 @@ use Rattle.layout.proofs.StepLaws.{length-words-of, row-enough}
 use Rattle.layout.proofs.CountLaws.{row-moves, row_got, times-moves, times-length}
 use Rattle.shared_ids.specs.Ids.{id_row}
 use Rattle.shared_counted_lists.specs.Runs.{Passes, Runs}
-use Rattle.shared_counted_lists.specs.declared.Ran.{Ran}
-use Rattle.shared_counted_lists.specs.declared.Ran.TheVariants as ran
 use Rattle.shared_ids.proofs.IdLaws.{word-at}
 use Rattle.shared_counted_lists.proofs.LinkLaws.{link_judged}
 use Rattle.shared_counted_lists.proofs.RunLaws.{Read, runs_bad, runs_place, runs_passed, runs_inside, runs_read}
 use Rattle.cal3d_spec.specs.Rules.{bone_numbers, child_numbers}
 use Rattle.shared_counted_lists.specs.Sums.{Sums}
 use Rattle.cal3d_skeleton_bones.specs.Bones.{read_links, link_count}
-use Rattle.shared_counted_lists.specs.declared.Summed.TheVariants as summed
 
 or_split : (a b : Bool) → T (a || b) → T a ⊎ T b
 or_split true b t = inl tt
@@ -43,12 +43,12 @@ numbers-parent bones p s x e =
     by-check (holds (names_or_none bones) w) 7 (p + 56) _ (sym j ∙ e) (λ t _.
     rw g.0 (elim (or_split (eqb w NONE) (ltb w bones) t) [ inl u ↦ inl (eqb→eq w NONE u) | inr u ↦ inr (ltb→lt w bones u) ]))
 
-module _ (s : List ℕ) (c : Cursor) (bones : ℕ) (inside : Inside c (length s)) (x : Ran) (u : Runs (row (bone_numbers bones) c.at (left c s)) c 80 x) where
-  pub links_numbers : (e p : ℕ) → x ≡ ran.Reject e p → Sums link_count (read_links bones c.at (left c s)) c 80 (summed.Reject e p)
+module _ (s : List ℕ) (c : Cursor) (bones : ℕ) (inside : Inside c (length s)) (x : std.Result Cursor Refusal) (u : Runs (row (bone_numbers bones) c.at (left c s)) c 80 x) where
+  pub links_numbers : (e : Refusal) → x ≡ Err e → Sums link_count (read_links bones c.at (left c s)) c 80 (Err e)
   unfolding read_links
-  links_numbers e p w = record { is = rw (runs_bad (row (bone_numbers bones) c.at (left c s)) c 80 x u e p w); passes = runs_place (row (bone_numbers bones) c.at (left c s)) c 80 x u e p w }
+  links_numbers e w = record { is = rw (runs_bad (row (bone_numbers bones) c.at (left c s)) c 80 x u e w); passes = runs_place (row (bone_numbers bones) c.at (left c s)) c 80 x u e w }
 
-  module _ (m : Cursor) (w : x ≡ ran.Accept m) where
+  module _ (m : Cursor) (w : x ≡ Ok m) where
     pub links_room : c.at + 76 + 4 ≤ length s
     links_room = let h = runs_passed (row (bone_numbers bones) c.at (left c s)) c 80 x u m w in omega arith
 
@@ -67,21 +67,21 @@ module _ (s : List ℕ) (c : Cursor) (bones : ℕ) (inside : Inside c (length s)
           let k : get_or y.value 19 0 ≡ n = ap (λ (ws : List ℕ). get_or ws 19 0) g.0 ∙ word-at s c 20 19 inside (omega (arith, left-length s c inside, g.1)) (omega arith) ∙ sym (z ∙ q) in
           rw (y.is, k)
 
-      module _ (r : Ran) (v : Runs (times n (row (id_row 1 (1 - 1) bones)) m.at (left m s)) m (n * (4 * 1)) r) where
+      module _ (r : std.Result Cursor Refusal) (v : Runs (times n (row (id_row 1 (1 - 1) bones)) m.at (left m s)) m (n * (4 * 1)) r) where
         numbers : Read s (row (bone_numbers bones) c.at (left c s)) c m
         numbers = runs_read (row (bone_numbers bones)) (row-moves (bone_numbers bones)) s c inside 80 x u m w
 
-        went : Passes c 80 (ran.Accept m)
+        went : Passes c 80 (Ok m)
         went = runs_passed (row (bone_numbers bones) c.at (left c s)) c 80 x u m w
 
-        pub links_bad : (e p : ℕ) → r ≡ ran.Reject e p → Sums link_count (read_links bones c.at (left c s)) c 80 (summed.Reject e p)
+        pub links_bad : (e : Refusal) → r ≡ Err e → Sums link_count (read_links bones c.at (left c s)) c 80 (Err e)
         unfolding kids
-        links_bad e p f =
+        links_bad e f =
             let h = went in
-            let k = runs_place (times n (row (child_numbers bones)) m.at (left m s)) m (n * 4) r v e p f in
-            record { is = rw (all numbers, runs_bad (times n (row (child_numbers bones)) m.at (left m s)) m (n * 4) r v e p f); passes = omega arith }
+            let k = runs_place (times n (row (child_numbers bones)) m.at (left m s)) m (n * 4) r v e f in
+            record { is = rw (all numbers, runs_bad (times n (row (child_numbers bones)) m.at (left m s)) m (n * 4) r v e f); passes = omega arith }
 
-        pub links_done : (next : Cursor) → r ≡ ran.Accept next → Sums link_count (read_links bones c.at (left c s)) c 80 (summed.Accept n next)
+        pub links_done : (next : Cursor) → r ≡ Ok next → Sums link_count (read_links bones c.at (left c s)) c 80 (Ok (n, next))
         unfolding kids
         links_done next f =
             let h = went in

@@ -1,5 +1,7 @@
 -- What is counted of bones, and the parts of one.
-use Rattle.std.specs.Prelude.{ℕ, ◌+◌, ◌-◌, ◌*◌, ◌<◌, ◌≤◌, ◌≡◌, List, [], ◌∷◌, length}
+use Rattle.std.specs.Prelude as std
+use Rattle.cal3d_skeleton_bones.specs.declared.Laid.{Laid}
+use Rattle.std.specs.Prelude.{ℕ, ◌+◌, ◌-◌, ◌*◌, ◌<◌, ◌≤◌, ◌≡◌, List, [], ◌∷◌, length, Some, None}
 use Rattle.wire.specs.Bytes.{word_at}
 use Rattle.wire.specs.Cursors.{left}
 use Rattle.wire.specs.declared.Cursor.{Cursor}
@@ -11,8 +13,6 @@ use Rattle.layout.specs.Lists.{All}
 use Rattle.cal3d_spec.specs.Rules.{bone_numbers, children_at, child_numbers}
 use Rattle.cal3d_spec.specs.Skeletons.{Bone, parent_of, list_of}
 use Rattle.cal3d_spec.specs.Tables.{child_rows}
-use Rattle.cal3d_skeleton_bones.specs.declared.Laid.{Laid}
-use Rattle.cal3d_skeleton_bones.specs.declared.Laid.TheVariants as laid
 
 -- the numbers at p of a bone of a skeleton with this number of bones, and its children
 unfoldable pub read_links : ℕ → ℕ → List ℕ → Result (Step (List ℕ × List (List ℕ)))
@@ -68,9 +68,9 @@ pub record NoBone (o : Result (Step Bone)) : Type 0 where
   pub none : (x : Step Bone) → o ≡ accept x → ⊥
 
 -- what code answers for o, which was read at c: the parts of the bone, or that none stands there
-abbrev pub Lays : List ℕ → ℕ → Result (Step Bone) → Cursor → Laid → Type 0
-Lays s bones o c (laid.At numbers count next) = LaidAt s bones o c numbers count next
-Lays s bones o c laid.Gone = NoBone o
+abbrev pub Lays : List ℕ → ℕ → Result (Step Bone) → Cursor → std.Option Laid → Type 0
+Lays s bones o c (Some f) = LaidAt s bones o c f.numbers f.children f.next
+Lays s bones o c None = NoBone o
 
 -- bones were read without a refusal
 pub record BonesRead (o : Result (Step (List Bone))) : Type 0 where

@@ -1,4 +1,8 @@
 -- A skeleton file: what each way through `limited` says of it.
+use Rattle.layout.specs.Refused.{refusal_at}
+use Rattle.std.specs.Prelude.{Ok, Err}
+use Rattle.std.specs.Prelude as std
+use Rattle.layout.specs.declared.Refusal.{Refusal}
 use Prim.Native.Nat.{ℕ, suc, ◌+◌, ◌-◌, ◌*◌, ◌<◌, ◌≤◌}
 use native.Mathlib.Omega.{arith}
 use mathlib.Core.Path.{◌≡◌, refl, ap, sym, ◌∙◌}
@@ -23,15 +27,11 @@ use Rattle.cal3d_spec.specs.Tables.{bone_rows, child_rows, skeleton_rows, most_r
 use Rattle.cal3d_spec.specs.Answers.{limited_skeleton}
 use Rattle.shared_counted_lists.specs.Sums.{Sums}
 use Rattle.cal3d_skeleton_bones.specs.Bones.{children_in}
-use Rattle.shared_counted_lists.specs.declared.Summed.{Summed}
-use Rattle.shared_counted_lists.specs.declared.Summed.TheVariants as summed
 use Rattle.cal3d_skeleton_limits.specs.Verdicts.{verdict_of}
-use Rattle.cal3d_skeleton_limits.specs.declared.SkeletonVerdict.TheVariants as verdict
 use Rattle.cal3d_skeleton_bones.proofs.BoneLaws.{bone-moves}
 use Rattle.cal3d_header.specs.Heads.{read_head, opened_of}
-use Rattle.cal3d_header.specs.declared.Opened.{Opened}
-use Rattle.cal3d_header.specs.declared.Opened.TheVariants as opened
 use Rattle.cal3d_header.proofs.HeadLaws.{head_of, HeadAt, head-then, opened-bad, opened-at}
+pub use Rattle.cal3d_header.proofs.HeadLaws.{place-fits}
 use Rattle.cal3d_header.proofs.FileEndLaws.{to_end, ended-bad, ended-spare, ended-done, left_over}
 use Rattle.shared_counted_lists.proofs.SumLaws.{summed_bad, summed_got, summed_place}
 
@@ -71,12 +71,12 @@ abbrev pub ended : List ℕ → Result (Step (List Bone)) → Result Skeleton
 ended ws o = to_end (made_of ws) o >>= limits
 
 -- a refusal, as the judge answers it
-refused : (o : Result Skeleton) (e p : ℕ) → o ≡ reject e p → verdict.Reject e p ≡ verdict_of o
+refused : (o : Result Skeleton) (e : Refusal) → o ≡ reject e.number e.place → Err e ≡ verdict_of o
 unfolding verdict_of
-refused o e p q = rw q
+refused o e q = rw q
 
 accepted : (o : Result Skeleton) (t : Skeleton) (b x y z j : ℕ) → o ≡ accept t → b ≡ get_or t.head 1 0 → x ≡ get_or t.head 2 0 → y ≡ get_or t.head 3 0 → z ≡ get_or t.head 4 0
-    → j ≡ children_in t.bones → verdict.Accept (record { bones = b; red = x; green = y; blue = z; children = j }) ≡ verdict_of o
+    → j ≡ children_in t.bones → Ok (record { bones = b; red = x; green = y; blue = z; children = j }) ≡ verdict_of o
 unfolding verdict_of
 accepted o t b x y z j q eb ex ey ez ej = rw (q, eb, ex, ey, ez, ej)
 
@@ -87,11 +87,11 @@ skeleton-head s =
     let rest : Step (List ℕ) → Result Skeleton = λ h. times (number h 1) (read_bone (number h 1)) h.place h.left >>= λ l. at_end l.place l.left >>= λ _. accept (record { head = h.value; bones = l.value }) in
     ap (λ (o : Result Skeleton). o >>= limits) (head-then skeleton_magic 1300 3 s rest) ∙ bind_bind (read_head skeleton_magic 1300 3 s) rest limits
 
-module _ (s : List ℕ) (x : Opened) (ex : x ≡ opened_of (read_head 4608835 1300 3 s)) where
-  pub file-head : (e p : ℕ) → x ≡ opened.Reject e p → verdict.Reject e p ≡ verdict_of (limited_skeleton s)
-  file-head e p w = refused (limited_skeleton s) e p (rw (skeleton-head s, opened-bad (read_head 4608835 1300 3 s) e p (sym w ∙ ex)))
+module _ (s : List ℕ) (x : std.Result ℕ Refusal) (ex : x ≡ opened_of (read_head 4608835 1300 3 s)) where
+  pub file-head : (e : Refusal) → x ≡ Err e → Err e ≡ verdict_of (limited_skeleton s)
+  file-head e w = refused (limited_skeleton s) e (rw (skeleton-head s, opened-bad (read_head 4608835 1300 3 s) e (sym w ∙ ex)))
 
-  module _ (bones : ℕ) (w : x ≡ opened.Accept bones) where
+  module _ (bones : ℕ) (w : x ≡ Ok bones) where
     head : HeadAt s 4608835 1300 3 bones
     head = opened-at 4608835 1300 3 s bones (sym w ∙ ex)
 
@@ -123,16 +123,16 @@ module _ (s : List ℕ) (x : Opened) (ex : x ≡ opened_of (read_head 4608835 13
           let n : get_or (head_of 3 s) 1 0 ≡ k = number_at 1 (omega arith) ∙ head.second ∙ sym ek in
           rw (skeleton-head s, head.is, n)
 
-      module _ (r : Summed) (b : Sums children_in (times k (read_bone k) 24 (left (record { at = 24; end = length s }) s)) (record { at = 24; end = length s }) (k * 84) r) where
-        pub walk-place : (e p : ℕ) → r ≡ summed.Reject e p → p < 4294967296
-        walk-place e p q = let h = summed_place children_in (times k (read_bone k) 24 (left (from s 24) s)) (from s 24) (k * 84) r b e p q in let m = file-small in omega arith
+      module _ (r : std.Result (ℕ × Cursor) Refusal) (b : Sums children_in (times k (read_bone k) 24 (left (record { at = 24; end = length s }) s)) (record { at = 24; end = length s }) (k * 84) r) where
+        pub walk-place : (e : Refusal) → r ≡ Err e → e.place < 4294967296
+        walk-place e q = let h = summed_place children_in (times k (read_bone k) 24 (left (from s 24) s)) (from s 24) (k * 84) r b e q in let m = file-small in omega arith
 
-        pub walk_refused : (e p : ℕ) → r ≡ summed.Reject e p → verdict.Reject e p ≡ verdict_of (limited_skeleton s)
-        walk_refused e p q =
-            refused (limited_skeleton s) e p
-            (walked ∙ ended-bad (made_of (head_of 3 s)) limits (times k (read_bone k) 24 (left (from s 24) s)) e p (summed_bad children_in (length s) (times k (read_bone k) 24 (left (from s 24) s)) e p (sym q ∙ b.is)))
+        pub walk_refused : (e : Refusal) → r ≡ Err e → Err e ≡ verdict_of (limited_skeleton s)
+        walk_refused e q =
+            refused (limited_skeleton s) e
+            (walked ∙ ended-bad (made_of (head_of 3 s)) limits (times k (read_bone k) 24 (left (from s 24) s)) e.number e.place (summed_bad children_in (length s) (times k (read_bone k) 24 (left (from s 24) s)) e (sym q ∙ b.is)))
 
-        module _ (j : ℕ) (n : Cursor) (u : r ≡ summed.Accept j n) where
+        module _ (j : ℕ) (n : Cursor) (u : r ≡ Ok (j, n)) where
           read : (x : Step (List Bone)) × (times k (read_bone k) 24 (left (from s 24) s) ≡ accept x) × (j ≡ children_in x.value) × (n ≡ record { at = x.place; end = length s })
           read = summed_got children_in (length s) (times k (read_bone k) 24 (left (from s 24) s)) j n (sym u ∙ b.is)
 
@@ -145,9 +145,9 @@ module _ (s : List ℕ) (x : Opened) (ex : x ≡ opened_of (read_head 4608835 13
           pub walk_end : n.at < 4294967296
           walk_end = let h = rw u at b.passes in let m = file-small in let p = h.1 in let q = h.2 in omega arith
 
-          pub file-spare : n.at < length s → verdict.Reject 5 n.at ≡ verdict_of (limited_skeleton s)
+          pub file-spare : n.at < length s → Err (refusal_at 5 n.at) ≡ verdict_of (limited_skeleton s)
           file-spare h =
-              refused (limited_skeleton s) 5 n.at
+              refused (limited_skeleton s) (refusal_at 5 n.at)
               (walked ∙ ended-spare (made_of (head_of 3 s)) limits (times k (read_bone k) 24 (left (from s 24) s)) read.0 read.1 (omega (arith, over)) ∙ ap (λ (p : ℕ). reject 5 p) (sym place))
 
           module _ (h : length s ≤ n.at) where
@@ -166,17 +166,17 @@ module _ (s : List ℕ) (x : Opened) (ex : x ≡ opened_of (read_head 4608835 13
             unfolding made
             child-count = read.2
 
-            pub many-bones : 16383 < bones → verdict.Reject 10 1 ≡ verdict_of (limited_skeleton s)
+            pub many-bones : 16383 < bones → Err (refusal_at 10 1) ≡ verdict_of (limited_skeleton s)
             unfolding most_rows
-            many-bones q = refused (limited_skeleton s) 10 1 (whole-file ∙ first-limit made (omega (arith, bone-count)))
+            many-bones q = refused (limited_skeleton s) (refusal_at 10 1) (whole-file ∙ first-limit made (omega (arith, bone-count)))
 
             module _ (few : bones ≤ 16383) where
-              pub many-children : 16383 < j → verdict.Reject 10 2 ≡ verdict_of (limited_skeleton s)
+              pub many-children : 16383 < j → Err (refusal_at 10 2) ≡ verdict_of (limited_skeleton s)
               unfolding most_rows
-              many-children q = refused (limited_skeleton s) 10 2 (whole-file ∙ second-limit made (omega (arith, bone-count)) (omega (arith, child-count)))
+              many-children q = refused (limited_skeleton s) (refusal_at 10 2) (whole-file ∙ second-limit made (omega (arith, bone-count)) (omega (arith, child-count)))
 
               pub file-good : j ≤ 16383 → (x₂ x₃ x₄ : ℕ) → x₂ ≡ word_at s 12 → x₃ ≡ word_at s 16 → x₄ ≡ word_at s 20
-                  → verdict.Accept (record { bones = bones; red = x₂; green = x₃; blue = x₄; children = j }) ≡ verdict_of (limited_skeleton s)
+                  → Ok (record { bones = bones; red = x₂; green = x₃; blue = x₄; children = j }) ≡ verdict_of (limited_skeleton s)
               unfolding most_rows made
               file-good q x₂ x₃ x₄ e₂ e₃ e₄ =
                   accepted (limited_skeleton s) made bones x₂ x₃ x₄ j
@@ -187,4 +187,4 @@ module _ (s : List ℕ) (x : Opened) (ex : x ≡ opened_of (read_head 4608835 13
                   (e₄ ∙ sym (number_at 4 (omega arith)))
                   child-count
 
-pub ruleset file = (file-head, file-inside, file_red, file_green, file_blue, walk-place, walk_refused, file-spare, many-bones, many-children, file-good)
+pub ruleset file = (place-fits, walk_end, file-head, file-inside, file_red, file_green, file_blue, walk-place, walk_refused, file-spare, many-bones, many-children, file-good)

@@ -2,13 +2,11 @@
 // asked here.
 #![tactic(auto)]
 
-ghost use Rattle.std.specs.Prelude.{◌≡◌};
+ghost use Rattle.std.specs.Prelude.{◌≡◌, ◌<◌, IfErr};
 ghost use Rattle.cal3d_spec.specs.Answers.{limited_skeleton};
 ghost use Rattle.cal3d_skeleton_limits.specs.Verdicts.{verdict_of};
 
-use cal3d_header::Opened;
-use layout::refusals;
-use shared_counted_lists::Summed;
+use layout::{Refusal, refusals};
 use wire::Cursor;
 
 // The header's numbers after the version, and how many children the bones have.
@@ -21,46 +19,38 @@ pub struct SkeletonSummary {
     pub children: usize,
 }
 
-// What a skeleton file comes to: the summary, or a refusal and its place.
-#[derive(Clone, Copy)]
-pub enum SkeletonVerdict {
-    Accept(SkeletonSummary),
-    Reject(u32, u32),
-}
-
-// Judges `file` up to the row limits: returns its summary, or the first of its refusals 1 to 10.
-pub fn limited(file: &[u8]) -> SkeletonVerdict
-    ensures { result ≡ verdict_of (limited_skeleton file.now) }
+// Judges `file` up to the row limits: returns its summary, or the first of its refusals 1 to 10, whose place fits in 32 bits.
+pub fn limited(file: &[u8]) -> Result<SkeletonSummary, Refusal>
+    ensures value { result ≡ verdict_of (limited_skeleton file.now) }
+    ensures place_fits { IfErr result (λ e. e.place < 4294967296) }
 {
-    match cal3d_header::entry_count(file, 0x00465343, 1300, 3) {
-        Opened::Reject(number, place) => SkeletonVerdict::Reject(number, place),
-        Opened::Accept(bones) => {
-            let n = file.len();
-            match cal3d_skeleton_bones::judge_bones(
-                file,
-                Cursor { at: 24, end: n },
-                wire::size(bones),
-            ) {
-                Summed::Reject(e, p) => SkeletonVerdict::Reject(e, p as u32),
-                Summed::Accept(children, c) => {
-                    if c.at < n {
-                        return SkeletonVerdict::Reject(refusals::CUT_ITEM, c.at as u32);
-                    }
-                    if 16383 < bones {
-                        return SkeletonVerdict::Reject(refusals::TOO_MANY_ROWS, 1);
-                    }
-                    if 16383 < children {
-                        return SkeletonVerdict::Reject(refusals::TOO_MANY_ROWS, 2);
-                    }
-                    SkeletonVerdict::Accept(SkeletonSummary {
-                        bones,
-                        red: wire::number_at(file, 12),
-                        green: wire::number_at(file, 16),
-                        blue: wire::number_at(file, 20),
-                        children,
-                    })
-                }
-            }
-        }
+    let bones = cal3d_header::entry_count(file, 0x00465343, 1300, 3)?;
+    let n = file.len();
+    let from = Cursor { at: 24, end: n };
+    let (children, c) = cal3d_skeleton_bones::judge_bones(file, from, wire::size(bones))?;
+    if c.at < n {
+        return Err(Refusal {
+            number: refusals::CUT_ITEM,
+            place: c.at,
+        });
     }
+    if 16383 < bones {
+        return Err(Refusal {
+            number: refusals::TOO_MANY_ROWS,
+            place: 1,
+        });
+    }
+    if 16383 < children {
+        return Err(Refusal {
+            number: refusals::TOO_MANY_ROWS,
+            place: 2,
+        });
+    }
+    Ok(SkeletonSummary {
+        bones,
+        red: wire::number_at(file, 12),
+        green: wire::number_at(file, 16),
+        blue: wire::number_at(file, 20),
+        children,
+    })
 }

@@ -1,4 +1,7 @@
 -- The rows of good bones: what each turn of `fill` stores.
+use Rattle.std.specs.Prelude.{Some, None}
+use Rattle.std.specs.Prelude as std
+use Rattle.cal3d_skeleton_bones.specs.declared.Laid.{Laid}
 use Prim.Native.Nat.{ℕ, ◌+◌, ◌-◌, ◌*◌, ◌<◌, ◌≤◌}
 use native.Mathlib.Omega.{arith}
 use mathlib.Core.Path.{◌≡◌, refl, ap, sym, ◌∙◌}
@@ -18,8 +21,6 @@ use Rattle.shared_table_words.proofs.JoinedLaws.{over-all}
 use Rattle.cal3d_spec.specs.Skeletons.{Bone, list_of, read_bone}
 use Rattle.cal3d_spec.specs.Tables.{bone_rows, child_rows}
 use Rattle.cal3d_skeleton_bones.specs.Bones.{LaidAt, NoBone, Lays, children_in}
-use Rattle.cal3d_skeleton_bones.specs.declared.Laid.{Laid}
-use Rattle.cal3d_skeleton_bones.specs.declared.Laid.TheVariants as laid
 use Rattle.cal3d_skeleton_bones.proofs.WalkLaws.{none_in, one_in}
 use Rattle.cal3d_skeleton_bones.proofs.BoneWalkLaws.{Walked, walked_start, walked_none, walked-gone, walked_next}
 use Rattle.cal3d_skeleton_tree_file.specs.Links.{GoodBones, bones_at}
@@ -109,55 +110,55 @@ module _ (s : List ℕ) (count : ℕ) (bones₀ children₀ : List ℕ) where
           let z = ap length e in
           store_done f.second e ∙ over-all children₀ (joined (child_rows all)) (omega (arith, none_in))
 
-    module _ (h : i < count) (r : Laid) (u : Lays s count (read_bone count c.at (left c s)) c r) where
-      gone : {P : Type 0} → r ≡ laid.Gone → P
+    module _ (h : i < count) (r : std.Option Laid) (u : Lays s count (read_bone count c.at (left c s)) c r) where
+      gone : {P : Type 0} → r ≡ None → P
       gone w = let n : NoBone (read_bone count c.at (left c s)) = rw w at u in walked-gone s count all c i f.done f.rest f.walked h n
 
-      pub gone_first : r ≡ laid.Gone → bones ≡ over (joined (bone_rows 0 all)) bones₀
+      pub gone_first : r ≡ None → bones ≡ over (joined (bone_rows 0 all)) bones₀
       gone_first w = gone w
 
-      pub gone_second : r ≡ laid.Gone → children ≡ over (joined (child_rows all)) children₀
+      pub gone_second : r ≡ None → children ≡ over (joined (child_rows all)) children₀
       gone_second w = gone w
 
-      module _ (numbers many : ℕ) (next : Cursor) (w : r ≡ laid.At numbers many next) where
-        b : LaidAt s count (read_bone count c.at (left c s)) c numbers many next
+      module _ (g : Laid) (w : r ≡ Some g) where
+        b : LaidAt s count (read_bone count c.at (left c s)) c g.numbers g.children g.next
         b = rw w at u
 
-        pub fill_numbers : Inside (record { at = numbers; end = c.end }) (length s)
+        pub fill_numbers : Inside (record { at = g.numbers; end = c.end }) (length s)
         fill_numbers = let k = f.walked.inside in let a = b in record { before = omega arith; within = k.within }
 
-        pub fill_kids : Inside (record { at = numbers + 80; end = c.end }) (length s)
+        pub fill_kids : Inside (record { at = g.numbers + 80; end = c.end }) (length s)
         fill_kids = let k = f.walked.inside in let a = b in record { before = omega arith; within = k.within }
 
-        pub fill_places : (c.at + 4 ≤ numbers) × (numbers + 80 + 4 * many ≤ c.end)
+        pub fill_places : (c.at + 4 ≤ g.numbers) × (g.numbers + 80 + 4 * g.children ≤ c.end)
         fill_places = let a = b in (a.behind, omega arith)
 
         pub fill_room : 23 * i + 23 ≤ 23 * count
         fill_room = omega arith
 
-        pub fill_before : before + many ≤ children_in all
+        pub fill_before : before + g.children ≤ children_in all
         fill_before =
-            walked_next s count all c i f.done f.rest f.walked h numbers many next b (λ l q k.
+            walked_next s count all c i f.done f.rest f.walked h g.numbers g.children g.next b (λ l q k.
             let m = f.many in
             let o = ap children_in q ∙ one_in b.bone l.value in
             let a = b.many in
             omega arith)
 
         pub fill_next : (new more : List ℕ)
-            → new ≡ sets bones (23 * i) (bone_cells (c.at + 4) (numbers - (c.at + 4)) (words_of 20 (left (record { at = numbers; end = c.end }) s)) before)
-            → more ≡ sets children before (words_of many (left (record { at = numbers + 80; end = c.end }) s))
-            → Filling s count all bones₀ children₀ next (i + 1) (before + many) new more
+            → new ≡ sets bones (23 * i) (bone_cells (c.at + 4) (g.numbers - (c.at + 4)) (words_of 20 (left (record { at = g.numbers; end = c.end }) s)) before)
+            → more ≡ sets children before (words_of g.children (left (record { at = g.numbers + 80; end = c.end }) s))
+            → Filling s count all bones₀ children₀ g.next (i + 1) (before + g.children) new more
         fill_next new more e₁ e₂ =
-            walked_next s count all c i f.done f.rest f.walked h numbers many next b (λ l q k.
-            let cells = bone_cells (c.at + 4) (numbers - (c.at + 4)) (words_of 20 (left (record { at = numbers; end = c.end }) s)) before in
-            let kids = words_of many (left (record { at = numbers + 80; end = c.end }) s) in
+            walked_next s count all c i f.done f.rest f.walked h g.numbers g.children g.next b (λ l q k.
+            let cells = bone_cells (c.at + 4) (g.numbers - (c.at + 4)) (words_of 20 (left (record { at = g.numbers; end = c.end }) s)) before in
+            let kids = words_of g.children (left (record { at = g.numbers + 80; end = c.end }) s) in
             let a = fill_places in
             let row : name_cells b.bone.name ++ (b.bone.numbers ++ (before ∷ [])) ≡ cells =
-            ap (λ (z : List ℕ). z ++ (b.bone.numbers ++ (before ∷ []))) b.label ∙ ap (λ (z : List ℕ). ((c.at + 4) ∷ (numbers - (c.at + 4)) ∷ []) ++ (z ++ (before ∷ []))) b.words in
-            let wide : length (words_of 20 (left (record { at = numbers; end = c.end }) s)) ≡ 20 = words_long 20 (record { at = numbers; end = c.end }) s fill_numbers (omega arith) in
-            let wide₂ : length kids ≡ many = words_long many (record { at = numbers + 80; end = c.end }) s fill_kids a.1 in
-            let long : length cells ≡ 23 = cells_long (c.at + 4) (numbers - (c.at + 4)) (words_of 20 (left (record { at = numbers; end = c.end }) s)) before wide in
-            let p₁ : joined (bone_rows before f.rest.value) ≡ cells ++ joined (bone_rows (before + many) l.value) =
+            ap (λ (z : List ℕ). z ++ (b.bone.numbers ++ (before ∷ []))) b.label ∙ ap (λ (z : List ℕ). ((c.at + 4) ∷ (g.numbers - (c.at + 4)) ∷ []) ++ (z ++ (before ∷ []))) b.words in
+            let wide : length (words_of 20 (left (record { at = g.numbers; end = c.end }) s)) ≡ 20 = words_long 20 (record { at = g.numbers; end = c.end }) s fill_numbers (omega arith) in
+            let wide₂ : length kids ≡ g.children = words_long g.children (record { at = g.numbers + 80; end = c.end }) s fill_kids a.1 in
+            let long : length cells ≡ 23 = cells_long (c.at + 4) (g.numbers - (c.at + 4)) (words_of 20 (left (record { at = g.numbers; end = c.end }) s)) before wide in
+            let p₁ : joined (bone_rows before f.rest.value) ≡ cells ++ joined (bone_rows (before + g.children) l.value) =
             ap (λ (z : List Bone). joined (bone_rows before z)) q ∙ bones-first before b.bone l.value
             ∙ ap (λ (z : List ℕ). z ++ joined (bone_rows (before + length b.bone.children) l.value)) row
             ∙ ap (λ (z : ℕ). cells ++ joined (bone_rows (before + z) l.value)) b.many in
@@ -166,8 +167,8 @@ module _ (s : List ℕ) (count : ℕ) (bones₀ children₀ : List ℕ) where
             let s₁ = store_run f.first cells p₁ in
             let s₂ = store_run f.second kids p₂ in
             let n₁ : 23 * i + length cells ≡ 23 * (i + 1) = omega arith in
-            let n₂ : before + length kids ≡ before + many = omega arith in
-            let l₁ = ap length p₁ ∙ length-append cells (joined (bone_rows (before + many) l.value)) in
+            let n₂ : before + length kids ≡ before + g.children = omega arith in
+            let l₁ = ap length p₁ ∙ length-append cells (joined (bone_rows (before + g.children) l.value)) in
             let l₂ = ap length p₂ ∙ length-append kids (joined (child_rows l.value)) in
             let m₁ = f.long_first in
             let m₂ = f.long_second in

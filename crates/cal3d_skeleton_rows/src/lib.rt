@@ -12,7 +12,6 @@ ghost use Rattle.cal3d_skeleton_bones.specs.Bones.{children_in};
 ghost use Rattle.cal3d_skeleton_tree_file.specs.Links.{GoodBones, bones_at};
 ghost use Rattle.cal3d_skeleton_rows.specs.Cells.{bone_cells};
 
-use cal3d_skeleton_bones::Laid;
 use wire::Cursor;
 
 // Stores a bone's row in `out` from word `base` on: the place `name` and the length of its name, which ends where its numbers stand; the numbers; and
@@ -39,19 +38,21 @@ pub fn fill(s: &[u8], from: Cursor, count: usize, bones: &mut [u32], children: &
     ensures children_after { children.new ≡ over (joined (child_rows (bones_at s.now from count))) children.old }
 {
     let mut c = from;
-    let mut i: usize = 0;
     let mut before: usize = 0;
-    while i < count {
-        let Laid::At(numbers, many, next) = cal3d_skeleton_bones::lay_bone(s, c, count) else {
+    for i in 0..count {
+        let Some(bone) = cal3d_skeleton_bones::lay_bone(s, c, count) else {
             return;
         };
         let name = c.at + 4;
         let end = c.end;
-        put_bone(s, name, Cursor { at: numbers, end }, before, 23 * i, bones);
-        let at = numbers + 80;
-        shared_table_words::copy_words(s, Cursor { at, end }, many, before, children);
-        before += many;
-        i += 1;
-        c = next;
+        let numbers = Cursor {
+            at: bone.numbers,
+            end,
+        };
+        put_bone(s, name, numbers, before, 23 * i, bones);
+        let at = bone.numbers + 80;
+        shared_table_words::copy_words(s, Cursor { at, end }, bone.children, before, children);
+        before += bone.children;
+        c = bone.next;
     }
 }

@@ -1,5 +1,5 @@
 -- Up the parents of a bone: what each turn of `climbs` and of `mark` says.
-use Prim.Native.Nat.{ℕ, zero, suc, ◌-◌, ◌<◌, ◌≤◌}
+use Prim.Native.Nat.{ℕ, zero, suc, ◌+◌, ◌-◌, ◌<◌, ◌≤◌}
 use native.Mathlib.Omega.{arith}
 use mathlib.Core.Bool.{true, false}
 use mathlib.Core.Logic.{inl, inr}
@@ -16,38 +16,37 @@ use Rattle.cal3d_skeleton_tree_check.proofs.EndLaws.{by-eq, ends-root, ends_up, 
 parent_is : (ps : List ℕ) → ParentsValid ps → (x : ℕ) → x < length ps → (get_or ps x 0 ≡ NONE → ⊥) → get_or ps x 0 < length ps
 parent_is ps v x h n = elim (v.named x h) [ inl z ↦ absurd (n z) | inr z ↦ z ]
 
--- the parents of b up to x are passed; so many steps are left
-pub record Climbing (ps : List ℕ) (b x more : ℕ) : Type 0 where
+-- so many parents of b are passed, up to x
+pub record Climbing (ps : List ℕ) (b x up : ℕ) : Type 0 where
   pub there : x < length ps
-  pub few : more ≤ length ps
-  pub rest : ends ps (length ps) b ≡ ends ps more x
+  pub rest : ends ps (length ps) b ≡ ends ps (length ps - up) x
   pub back : ParentsEnd ps x → ParentsEnd ps b
 
 module _ (ps : List ℕ) (b : ℕ) where
-  pub climb_start : b < length ps → Climbing ps b b (length ps)
-  climb_start h = record { there = h; few = omega arith; rest = refl; back = λ k. k }
+  pub climb_start : b < length ps → Climbing ps b b 0
+  climb_start h = let e : length ps ≡ length ps - 0 = omega arith in record { there = h; rest = ap (λ (n : ℕ). ends ps n b) e; back = λ k. k }
 
-  module _ (x more : ℕ) (c : Climbing ps b x more) where
+  module _ (x up : ℕ) (c : Climbing ps b x up) where
     pub climb_marked : (marks : List ℕ) → Marked ps marks → get_or marks x 0 ≡ 1 → true ≡ ends ps (length ps) b
     climb_marked marks m e = sym (c.back (m.marked x c.there e)).kept
 
-    pub climb_out : more ≤ 0 → false ≡ ends ps (length ps) b
-    climb_out h = let e : more ≡ 0 = omega arith in sym (c.rest ∙ ap (λ (n : ℕ). ends ps n x) e ∙ ends_none ps x)
+    pub climb_out : length ps ≤ up → false ≡ ends ps (length ps) b
+    climb_out h = let e : length ps - up ≡ 0 = omega arith in sym (c.rest ∙ ap (λ (n : ℕ). ends ps n x) e ∙ ends_none ps x)
 
-    module _ (h : 0 < more) where
-      less : more ≡ suc (more - 1)
+    module _ (h : up < length ps) where
+      less : length ps - up ≡ suc (length ps - (up + 1))
       less = omega arith
 
       pub climb_root : get_or ps x 0 ≡ 4294967295 → true ≡ ends ps (length ps) b
-      climb_root e = sym (c.rest ∙ ap (λ (n : ℕ). ends ps n x) less ∙ ends-root ps (more - 1) x e)
+      climb_root e = sym (c.rest ∙ ap (λ (n : ℕ). ends ps n x) less ∙ ends-root ps (length ps - (up + 1)) x e)
 
-      pub climb_up : ParentsValid ps → (get_or ps x 0 ≡ 4294967295 → ⊥) → (y : ℕ) → y ≡ get_or ps x 0 → Climbing ps b y (more - 1)
+      pub climb_up : ParentsValid ps → (get_or ps x 0 ≡ 4294967295 → ⊥) → (y : ℕ) → y ≡ get_or ps x 0 → Climbing ps b y (up + 1)
       climb_up v n y e =
-          let up = parent_is ps v x c.there n in
+          let above = parent_is ps v x c.there n in
+          let left = length ps - (up + 1) in
           record {
-            there = rw e up;
-            few = let f = c.few in omega arith;
-            rest = c.rest ∙ ap (λ (k : ℕ). ends ps k x) less ∙ ends_up ps (more - 1) x n ∙ ap (λ (z : ℕ). ends ps (more - 1) z) (sym e);
+            there = rw e above;
+            rest = c.rest ∙ ap (λ (k : ℕ). ends ps k x) less ∙ ends_up ps left x n ∙ ap (λ (z : ℕ). ends ps left z) (sym e);
             back = λ k. c.back (record { kept = ends_all ps v (suc (length ps)) x c.there (ends_up ps (length ps) x n ∙ ap (λ (z : ℕ). ends ps (length ps) z) (sym e) ∙ k.kept) });
           }
 

@@ -56,8 +56,8 @@ module _ (ps scores marks : List ℕ) where
   stray_start m = let e : length ps ≡ length ps - 0 = omega arith in record { there = omega arith; marked = m; rest = ap (λ (n : ℕ). lowest (sound ps scores) n 0) e }
 
   module _ (b : ℕ) (c : Straying ps scores marks b) where
-    pub stray_none : length ps ≤ b → b ≡ lowest (sound ps scores) (length ps) 0
-    stray_none h = let e : length ps - b ≡ 0 = omega arith in sym (c.rest ∙ ap (λ (n : ℕ). lowest (sound ps scores) n b) e ∙ lowest-none (sound ps scores) b)
+    pub stray_none : length ps ≤ b → length ps ≡ lowest (sound ps scores) (length ps) 0
+    stray_none h = let e : length ps - b ≡ 0 = omega arith in let k = c.there in let f : length ps ≡ b = omega arith in f ∙ sym (c.rest ∙ ap (λ (n : ℕ). lowest (sound ps scores) n b) e ∙ lowest-none (sound ps scores) b)
 
     module _ (h : b < length ps) (w : ℕ) (ew : w ≡ wanted (get_or ps b 0)) where
       pub stray_score : (get_or scores b 0 ≡ w → ⊥) → b ≡ lowest (sound ps scores) (length ps) 0

@@ -22,8 +22,7 @@ fn climbs(parents: &[u32], marks: &[u32], b: usize) -> bool
     ensures { result ≡ ends parents.now (length parents.now) b }
 {
     let mut x = b;
-    let mut more = parents.len();
-    while 0 < more {
+    for _ in 0..parents.len() {
         if marks[x] == 1 {
             return true;
         }
@@ -32,7 +31,6 @@ fn climbs(parents: &[u32], marks: &[u32], b: usize) -> bool
             return true;
         }
         x = wire::size(p);
-        more -= 1;
     }
     false
 }
@@ -44,8 +42,7 @@ fn mark(parents: &[u32], marks: &mut [u32], b: usize)
     ensures { Marked parents.now marks.new }
 {
     let mut x = b;
-    let mut more = parents.len();
-    while 0 < more {
+    for _ in 0..parents.len() {
         if marks[x] == 1 {
             return;
         }
@@ -55,7 +52,6 @@ fn mark(parents: &[u32], marks: &mut [u32], b: usize)
             return;
         }
         x = wire::size(p);
-        more -= 1;
     }
 }
 
@@ -64,8 +60,7 @@ fn first_stray(parents: &[u32], scores: &[u32], marks: &mut [u32]) -> usize
     requires { (length scores.now ≡ length parents.now) × ParentsValid parents.now × Marked parents.now marks.old }
     ensures { result ≡ lowest (sound parents.now scores.now) (length parents.now) 0 }
 {
-    let mut b: usize = 0;
-    while b < parents.len() {
+    for b in 0..parents.len() {
         if scores[b] != wanted(parents[b]) {
             return b;
         }
@@ -73,9 +68,8 @@ fn first_stray(parents: &[u32], scores: &[u32], marks: &mut [u32]) -> usize
             return b;
         }
         mark(parents, marks, b);
-        b += 1;
     }
-    b
+    parents.len()
 }
 
 // Returns as many zeros as a skeleton may have bones.

@@ -1,16 +1,17 @@
 -- What the lowest bone that does not stand right says of the trees of good bones.
+use Rattle.layout.specs.Refused.{refusal_at}
+use Rattle.std.specs.Prelude.{Ok, Err}
 use Prim.Native.Nat.{ℕ, zero, suc, ◌<◌, ◌≤◌}
 use native.Mathlib.Omega.{arith}
 use mathlib.Core.Logic.{◌⊎◌}
 use mathlib.Core.Path.{◌≡◌, refl, ap, sym, ◌∙◌}
 use mathlib.Core.List.{List, [], ◌∷◌, map}
 use lib.ListN.{length, take, get_or, length-map}
-use lib.Dec.{ltb}
 use borrow.Author.Tests.{lt-ltb, le-ltb}
 use Rattle.wire.specs.Test.{if}
 use Rattle.wire.specs.Cursors.{left}
 use Rattle.wire.specs.declared.Cursor.{Cursor}
-use Rattle.layout.specs.Result.{accept, ◌>>=◌}
+use Rattle.layout.specs.Result.{accept}
 use Rattle.layout.specs.Parts.{Step, row, number}
 use Rattle.layout.specs.Rules.{NONE}
 use Rattle.layout.specs.Counted.{sized, before, times}
@@ -24,7 +25,6 @@ use Rattle.cal3d_skeleton_bones.proofs.LinkLaws.{numbers-parent}
 use Rattle.cal3d_skeleton_tree_check.specs.Scores.{score, sound, lowest, ParentsValid, Scored, Zeros, place_at, stray_at}
 use Rattle.cal3d_skeleton_tree_scores.proofs.ScoreLaws.{trees_stray}
 use Rattle.cal3d_skeleton_tree_file.specs.Links.{GoodBones, bones_at, told_of}
-use Rattle.cal3d_skeleton_tree_file.specs.declared.Told.TheVariants as told
 
 -- a bone, or none
 abbrev OneOf : ℕ → ℕ → Type 0
@@ -84,11 +84,11 @@ module _ (s : List ℕ) (from : Cursor) (bones : ℕ) (g : GoodBones s from bone
           λ b h. let x = t.each b (omega (arith, parents_many, bone-count)) in omega arith in
           rw er (rw (← e) at (trees_stray (bones_at s from bones) scores named (omega (arith, bone-count)) (rw e at each)))
 
-      pub stray_found : r < bones → (p : ℕ) → p ≡ place_at (bones_at s from bones) r → told.Reject 16 p ≡ told_of (trees (bones_at s from bones))
+      pub stray_found : r < bones → (p : ℕ) → p ≡ place_at (bones_at s from bones) r → Err (refusal_at 16 p) ≡ told_of (trees (bones_at s from bones))
       unfolding told_of if
       stray_found h p q = rw (same, lt-ltb r (length (bones_at s from bones)) (omega (arith, bone-count)), q)
 
-      pub stray_nowhere : bones ≤ r → told.Accept ≡ told_of (trees (bones_at s from bones))
+      pub stray_nowhere : bones ≤ r → (Ok tt) ≡ told_of (trees (bones_at s from bones))
       unfolding told_of if
       stray_nowhere h = rw (same, le-ltb r (length (bones_at s from bones)) (omega (arith, bone-count)))
 

@@ -1,5 +1,8 @@
 -- The parents of good bones: what each turn of `gather` stores.
-use Prim.Native.Nat.{ℕ, suc, ◌+◌, ◌-◌, ◌<◌, ◌≤◌}
+use Rattle.std.specs.Prelude.{Some, None}
+use Rattle.std.specs.Prelude as std
+use Rattle.cal3d_skeleton_bones.specs.declared.Laid.{Laid}
+use Prim.Native.Nat.{ℕ, suc, ◌+◌, ◌<◌, ◌≤◌}
 use native.Mathlib.Omega.{arith}
 use mathlib.Core.Path.{◌≡◌, ap, sym, ◌∙◌}
 use mathlib.Core.List.{List, [], ◌∷◌, ◌++◌, map, append-nil}
@@ -11,8 +14,6 @@ use Rattle.layout.specs.Parts.{Step}
 use Rattle.shared_table_words.proofs.StoreLaws.{Storing, store_none, store_one, store_done, store_whole}
 use Rattle.cal3d_spec.specs.Skeletons.{Bone, parent_of, read_bone}
 use Rattle.cal3d_skeleton_bones.specs.Bones.{LaidAt, NoBone, Lays}
-use Rattle.cal3d_skeleton_bones.specs.declared.Laid.{Laid}
-use Rattle.cal3d_skeleton_bones.specs.declared.Laid.TheVariants as laid
 use Rattle.cal3d_skeleton_bones.proofs.BoneWalkLaws.{Walked, walked_start, walked_none, walked-gone, walked_next}
 use Rattle.cal3d_skeleton_tree_file.specs.Links.{GoodBones, bones_at}
 
@@ -43,20 +44,20 @@ module _ (s : List ℕ) (bones : ℕ) (out₀ : List ℕ) where
         let n : length (map parent_of all) ≡ length out₀ = length-map all parent_of ∙ ap length (sym j) ∙ omega arith in
         store_done g.stores (ap (map parent_of) e) ∙ store_whole out₀ (map parent_of all) n
 
-    module _ (h : i < bones) (r : Laid) (u : Lays s bones (read_bone bones c.at (left c s)) c r) where
-      pub gather_gone : r ≡ laid.Gone → out ≡ map parent_of all
+    module _ (h : i < bones) (r : std.Option Laid) (u : Lays s bones (read_bone bones c.at (left c s)) c r) where
+      pub gather_gone : r ≡ None → out ≡ map parent_of all
       gather_gone w = let n : NoBone (read_bone bones c.at (left c s)) = rw w at u in walked-gone s bones all c i g.done g.rest g.walked h n
 
-      module _ (numbers count : ℕ) (next : Cursor) (w : r ≡ laid.At numbers count next) where
-        b : LaidAt s bones (read_bone bones c.at (left c s)) c numbers count next
+      module _ (f : Laid) (w : r ≡ Some f) where
+        b : LaidAt s bones (read_bone bones c.at (left c s)) c f.numbers f.children f.next
         b = rw w at u
 
-        pub gather_room : numbers + 56 + 4 ≤ length s
+        pub gather_room : f.numbers + 56 + 4 ≤ length s
         gather_room = let k = g.walked.inside in let a = b in omega arith
 
-        pub gather_next : (v : ℕ) → v ≡ word_at s (numbers + 56) → Gathering s bones all out₀ next (i + 1) (set out i v)
+        pub gather_next : (v : ℕ) → v ≡ word_at s (f.numbers + 56) → Gathering s bones all out₀ f.next (i + 1) (set out i v)
         gather_next v e =
-            walked_next s bones all c i g.done g.rest g.walked h numbers count next b (λ l q k.
+            walked_next s bones all c i g.done g.rest g.walked h f.numbers f.children f.next b (λ l q k.
             let z : map parent_of g.rest.value ≡ v ∷ map parent_of l.value = ap (map parent_of) q ∙ ap (λ (x : ℕ). x ∷ map parent_of l.value) (b.parent ∙ sym e) in
             let n : 0 + (i + 1) ≡ suc (0 + i) = omega arith in
             let o : 0 + i ≡ i = omega arith in

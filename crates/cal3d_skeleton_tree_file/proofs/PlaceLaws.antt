@@ -1,4 +1,7 @@
 -- The first byte of a bone: what each turn of `bone_at` passes.
+use Rattle.std.specs.Prelude.{Some, None}
+use Rattle.std.specs.Prelude as std
+use Rattle.cal3d_skeleton_bones.specs.declared.Laid.{Laid}
 use Prim.Native.Nat.{ℕ, suc, ◌+◌, ◌-◌, ◌<◌, ◌≤◌}
 use native.Mathlib.Omega.{arith}
 use mathlib.Core.Path.{◌≡◌, refl, ap, sym, ◌∙◌}
@@ -14,8 +17,6 @@ use Rattle.layout.proofs.CountLaws.{times_got}
 use Rattle.cal3d_spec.specs.Rules.{bone_numbers, children_at, child_numbers}
 use Rattle.cal3d_spec.specs.Skeletons.{Bone, read_bone}
 use Rattle.cal3d_skeleton_bones.specs.Bones.{LaidAt, NoBone, Lays}
-use Rattle.cal3d_skeleton_bones.specs.declared.Laid.{Laid}
-use Rattle.cal3d_skeleton_bones.specs.declared.Laid.TheVariants as laid
 use Rattle.cal3d_skeleton_bones.proofs.BoneWalkLaws.{Walked, walked_start, walked-gone, walked_next}
 use Rattle.cal3d_skeleton_tree_check.specs.Scores.{place_at}
 use Rattle.cal3d_skeleton_tree_file.specs.Links.{GoodBones, bones_at}
@@ -59,14 +60,14 @@ module _ (s : List ℕ) (bones : ℕ) where
         let n : length g.done ≡ which = w.many ∙ omega arith in
         sym (bone-place bones c.at (left c s) y ey) ∙ sym (place_after g.done l.value y.value) ∙ rw (j, n))
 
-    module _ (h : i < which) (r : Laid) (u : Lays s bones (read_bone bones c.at (left c s)) c r) where
-      pub place_gone : r ≡ laid.Gone → c.at ≡ place_at all which
+    module _ (h : i < which) (r : std.Option Laid) (u : Lays s bones (read_bone bones c.at (left c s)) c r) where
+      pub place_gone : r ≡ None → c.at ≡ place_at all which
       place_gone w = let n : NoBone (read_bone bones c.at (left c s)) = rw w at u in walked-gone s bones all c i g.done g.rest g.walked (omega arith) n
 
-      pub place_next : (numbers count : ℕ) (next : Cursor) → r ≡ laid.At numbers count next → Placing s bones all next (i + 1)
-      place_next numbers count next w =
-          let b : LaidAt s bones (read_bone bones c.at (left c s)) c numbers count next = rw w at u in
-          walked_next s bones all c i g.done g.rest g.walked (omega arith) numbers count next b (λ l q k.
+      pub place_next : (f : Laid) → r ≡ Some f → Placing s bones all f.next (i + 1)
+      place_next f w =
+          let b : LaidAt s bones (read_bone bones c.at (left c s)) c f.numbers f.children f.next = rw w at u in
+          walked_next s bones all c i g.done g.rest g.walked (omega arith) f.numbers f.children f.next b (λ l q k.
           record { done = g.done ++ b.bone ∷ []; rest = l; walked = k })
 
 pub ruleset places = (place_start, place_inside, place_small, place_done, place_gone, place_next)

@@ -1,5 +1,8 @@
 -- The scores that lists give: what each turn of `tell` adds.
-use Prim.Native.Nat.{ℕ, zero, suc, ◌+◌, ◌-◌, ◌*◌, ◌<◌, ◌≤◌}
+use Rattle.std.specs.Prelude.{Some, None}
+use Rattle.std.specs.Prelude as std
+use Rattle.cal3d_skeleton_bones.specs.declared.Laid.{Laid}
+use Prim.Native.Nat.{ℕ, zero, suc, ◌+◌, ◌*◌, ◌<◌, ◌≤◌}
 use native.Mathlib.Omega.{arith}
 use mathlib.Core.Path.{◌≡◌, refl, ap, sym, ◌∙◌}
 use mathlib.Core.List.{List, [], ◌∷◌, ◌++◌, map, append-nil}
@@ -15,8 +18,6 @@ use Rattle.shared_ids.proofs.IdLaws.{word-at}
 use Rattle.cal3d_spec.specs.Skeletons.{Bone, list_of, read_bone}
 use Rattle.cal3d_spec.specs.Trees.{occurs}
 use Rattle.cal3d_skeleton_bones.specs.Bones.{LaidAt, NoBone, Lays}
-use Rattle.cal3d_skeleton_bones.specs.declared.Laid.{Laid}
-use Rattle.cal3d_skeleton_bones.specs.declared.Laid.TheVariants as laid
 use Rattle.cal3d_skeleton_bones.proofs.BoneWalkLaws.{Walked, walked_start, walked_none, walked-gone, walked_next}
 use Rattle.cal3d_skeleton_tree_check.specs.Scores.{score, Zeros, Scored, Low, ChildIds, noted}
 use Rattle.cal3d_skeleton_tree_scores.proofs.ScoreLaws.{scored_next}
@@ -76,41 +77,41 @@ module _ (s : List ℕ) (bones : ℕ) (ps : List ℕ) where
         let j : t.done ≡ all = sym (append-nil t.done) ∙ ap (λ (z : List Bone). t.done ++ z) (sym e) ∙ w.joins in
         rw j at t.scored
 
-    module _ (h : i < bones) (r : Laid) (u : Lays s bones (read_bone bones c.at (left c s)) c r) where
-      pub tell_gone : r ≡ laid.Gone → Scored ps (map list_of all) [] scores
+    module _ (h : i < bones) (r : std.Option Laid) (u : Lays s bones (read_bone bones c.at (left c s)) c r) where
+      pub tell_gone : r ≡ None → Scored ps (map list_of all) [] scores
       tell_gone w = let n : NoBone (read_bone bones c.at (left c s)) = rw w at u in walked-gone s bones all c i t.done t.rest t.walked h n
 
-      module _ (numbers count : ℕ) (next : Cursor) (w : r ≡ laid.At numbers count next) where
-        b : LaidAt s bones (read_bone bones c.at (left c s)) c numbers count next
+      module _ (g : Laid) (w : r ≡ Some g) where
+        b : LaidAt s bones (read_bone bones c.at (left c s)) c g.numbers g.children g.next
         b = rw w at u
 
-        pub tell_room : numbers + 80 + 4 * count ≤ length s
+        pub tell_room : g.numbers + 80 + 4 * g.children ≤ length s
         tell_room = let k = t.last in let a = b in omega arith
 
-        pub tell_entries : length s ≤ 16777216 → entries + count ≤ 1000000000
+        pub tell_entries : length s ≤ 16777216 → entries + g.children ≤ 1000000000
         tell_entries k = let q = t.few in let a = b in let l = t.last in omega arith
 
-        kids : list_of b.bone ≡ words_of count (drop (numbers + 80) s)
-        kids = b.kids ∙ ap (words_of count) (left-last s (numbers + 80) c.end t.last)
+        kids : list_of b.bone ≡ words_of g.children (drop (g.numbers + 80) s)
+        kids = b.kids ∙ ap (words_of g.children) (left-last s (g.numbers + 80) c.end t.last)
 
-        pub tell_listed : ChildIds s (numbers + 80) count (length ps)
+        pub tell_listed : ChildIds s (g.numbers + 80) g.children (length ps)
         tell_listed =
-            let at = span (numbers + 80) c.end in
+            let at = span (g.numbers + 80) c.end in
             let l = t.last in
             let a = b in
             let p = t.walked.inside in
             let inside : Inside at (length s) = record { before = omega arith; within = omega arith } in
-            let long = length-words-of count (left at s) (omega (arith, left-length s at inside)) in
+            let long = length-words-of g.children (left at s) (omega (arith, left-length s at inside)) in
             let named = rw b.kids at b.named in
             record {
-              bone = λ k q. rw (t.long, ← word-at s at count k inside (omega arith) q)
-                  (all-at (λ (x : ℕ). x < bones) (words_of count (left at s)) k named (omega (arith, long)));
+              bone = λ k q. rw (t.long, ← word-at s at g.children k inside (omega arith) q)
+                  (all-at (λ (x : ℕ). x < bones) (words_of g.children (left at s)) k named (omega (arith, long)));
             }
 
-        pub tell_next : (q : ℕ) → q ≡ i → (new : List ℕ) → new ≡ noted ps q scores (words_of count (drop (numbers + 80) s)) → Low (entries + count) new
-            → Telling s bones all ps next (i + 1) (entries + count) new
+        pub tell_next : (q : ℕ) → q ≡ i → (new : List ℕ) → new ≡ noted ps q scores (words_of g.children (drop (g.numbers + 80) s)) → Low (entries + g.children) new
+            → Telling s bones all ps g.next (i + 1) (entries + g.children) new
         tell_next q eq new e low =
-            walked_next s bones all c i t.done t.rest t.walked h numbers count next b (λ l v k.
+            walked_next s bones all c i t.done t.rest t.walked h g.numbers g.children g.next b (λ l v k.
             let n : length (map list_of t.done) ≡ i = length-map t.done list_of ∙ t.walked.many in
             let named : All (λ (x : ℕ). x < length ps) (list_of b.bone) = rw t.long b.named in
             let one = noted_scored ps (map list_of t.done) [] (list_of b.bone) scores named t.scored in

@@ -2,22 +2,14 @@
 // that grows with the file.
 #![tactic(auto)]
 
-ghost use Rattle.std.specs.Prelude.{◌≡◌, [], map, ◌<◌, ◌≤◌, length};
+ghost use Rattle.std.specs.Prelude.{◌≡◌, [], map, ◌<◌, ◌≤◌, length, IfErr};
 ghost use Rattle.cal3d_spec.specs.Skeletons.{parent_of, list_of};
 ghost use Rattle.cal3d_spec.specs.Trees.{trees};
 ghost use Rattle.cal3d_skeleton_tree_check.specs.Scores.{Zeros, Scored, place_at};
 ghost use Rattle.cal3d_skeleton_tree_file.specs.Links.{GoodBones, bones_at, told_of};
 
-use cal3d_skeleton_bones::Laid;
-use layout::refusals;
+use layout::{Refusal, refusals};
 use wire::Cursor;
-
-// Lists and parents tell the same trees; or a refusal and its place.
-#[derive(Clone, Copy)]
-pub enum Told {
-    Accept,
-    Reject(u32, u32),
-}
 
 // Stores the parents of the `bones` bones from `from` on in `out`.
 fn gather(s: &[u8], from: Cursor, bones: usize, out: &mut [u32])
@@ -25,14 +17,12 @@ fn gather(s: &[u8], from: Cursor, bones: usize, out: &mut [u32])
     ensures { out.new ≡ map parent_of (bones_at s.now from bones) }
 {
     let mut c = from;
-    let mut i: usize = 0;
-    while i < bones {
-        let Laid::At(numbers, _, next) = cal3d_skeleton_bones::lay_bone(s, c, bones) else {
+    for i in 0..bones {
+        let Some(bone) = cal3d_skeleton_bones::lay_bone(s, c, bones) else {
             return;
         };
-        out[i] = wire::number_at(s, numbers + 56);
-        i += 1;
-        c = next;
+        out[i] = wire::number_at(s, bone.numbers + 56);
+        c = bone.next;
     }
 }
 
@@ -42,24 +32,22 @@ fn tell(s: &[u8], from: Cursor, bones: usize, parents: &[u32], scores: &mut [u32
     ensures { Scored parents.now (map list_of (bones_at s.now from bones)) [] scores.new }
 {
     let mut c = from;
-    let mut i: usize = 0;
     let mut entries: usize = 0;
-    while i < bones {
-        let Laid::At(numbers, count, next) = cal3d_skeleton_bones::lay_bone(s, c, bones) else {
+    for i in 0..bones {
+        let Some(bone) = cal3d_skeleton_bones::lay_bone(s, c, bones) else {
             return;
         };
         cal3d_skeleton_tree_scores::note_list(
             s,
-            numbers + 80,
-            count,
+            bone.numbers + 80,
+            bone.children,
             i as u32,
             parents,
             entries,
             scores,
         );
-        entries += count;
-        i += 1;
-        c = next;
+        entries += bone.children;
+        c = bone.next;
     }
 }
 
@@ -69,13 +57,11 @@ fn bone_at(s: &[u8], from: Cursor, bones: usize, which: usize) -> usize
     ensures { (result ≡ place_at (bones_at s.now from bones) which) × (result ≤ length s.now) }
 {
     let mut c = from;
-    let mut i: usize = 0;
-    while i < which {
-        let Laid::At(_, _, next) = cal3d_skeleton_bones::lay_bone(s, c, bones) else {
+    for _ in 0..which {
+        let Some(bone) = cal3d_skeleton_bones::lay_bone(s, c, bones) else {
             return c.at;
         };
-        i += 1;
-        c = next;
+        c = bone.next;
     }
     c.at
 }
@@ -88,23 +74,29 @@ fn same_trees_by(
     bones: usize,
     parents: &mut [u32],
     scores: &mut [u32],
-) -> Told
+) -> Result<(), Refusal>
     requires { GoodBones s.now from bones × (length parents.old ≡ bones) × (length scores.old ≡ bones) × Zeros scores.old }
-    ensures { result ≡ told_of (trees (bones_at s.now from bones)) }
+    ensures value { result ≡ told_of (trees (bones_at s.now from bones)) }
+    ensures place_fits { IfErr result (λ e. e.place < 4294967296) }
 {
     gather(s, from, bones, parents);
     tell(s, from, bones, parents, scores);
     let lowest = cal3d_skeleton_tree_check::stray(parents, scores);
     if lowest < bones {
-        return Told::Reject(refusals::NO_TREE, bone_at(s, from, bones, lowest) as u32);
+        return Err(Refusal {
+            number: refusals::NO_TREE,
+            place: bone_at(s, from, bones, lowest),
+        });
     }
-    Told::Accept
+    Ok(())
 }
 
-// Checks that lists and parents of the `bones` bones from `from` on tell the same trees. Returns 16 at the first byte of the lowest bone that is not right.
-pub fn same_trees(s: &[u8], from: Cursor, bones: usize) -> Told
+// Checks that lists and parents of the `bones` bones from `from` on tell the same trees. Returns 16 at the first byte of the lowest bone that is not right;
+// that place fits in 32 bits.
+pub fn same_trees(s: &[u8], from: Cursor, bones: usize) -> Result<(), Refusal>
     requires { GoodBones s.now from bones }
-    ensures { result ≡ told_of (trees (bones_at s.now from bones)) }
+    ensures value { result ≡ told_of (trees (bones_at s.now from bones)) }
+    ensures place_fits { IfErr result (λ e. e.place < 4294967296) }
 {
     let mut parents = cal3d_skeleton_tree_check::zeros();
     let mut scores = cal3d_skeleton_tree_check::zeros();

@@ -9,7 +9,7 @@ use lib.Seq.{get_or-set_same, get_or-set_other, drop-cons, set_out}
 use lib.Dec.{eqb, ltb, ltb→lt, nltb→le}
 use Rattle.layout.proofs.ResultLaws.{by_test}
 use Rattle.wire.specs.Test.{if}
-use Rattle.wire.specs.Bytes.{word, word_at}
+use Rattle.wire.specs.Bytes.{word_at}
 use Rattle.layout.specs.Parts.{words_of}
 use Rattle.layout.proofs.AllLaws.{All}
 use Rattle.cal3d_skeleton_tree_check.specs.Scores.{weight, noted, Low, ChildIds, Scored}

@@ -32,14 +32,12 @@ pub fn note_list(
     ensures { (scores.new ≡ noted parents.now q scores.old (words_of count (drop at s.now)))
         × Low (entries + count) scores.new }
 {
-    let mut i: usize = 0;
-    while i < count {
+    for i in 0..count {
         note(
             parents,
             scores,
             q,
             wire::size(wire::number_at(s, at + 4 * i)),
         );
-        i += 1;
     }
 }

@@ -10,3 +10,4 @@ pub mod ChunkLaws
 pub mod PlaceLaws
 pub mod RefusalLaws
 pub mod HeldLaws
+pub mod AnswerLaws

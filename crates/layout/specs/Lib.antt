@@ -10,3 +10,4 @@ pub mod WellFormed
 pub mod Fitting
 pub mod Counted
 pub mod Rows
+pub mod Refused

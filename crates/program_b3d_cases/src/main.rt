@@ -7,7 +7,6 @@ mod limits;
 mod order;
 mod slips;
 
-use b3d_judge_file_body::Verdict;
 use b3d_judge_tally::Tally;
 use b3d_spec::Mode;
 use std::io;
@@ -38,11 +37,11 @@ fn case(rt: &impl Print, name: &[u8], file: &[u8]) -> io::Result<()> {
     rt.write_all(name)?;
     rt.write_all(b":")?;
     match b3d_judge::judge(Mode::Strict, file) {
-        Verdict::Reject(number, place) => {
-            print(rt, wire::size(number))?;
-            print(rt, place)?;
+        Err(e) => {
+            print(rt, wire::size(e.number))?;
+            print(rt, e.place)?;
         }
-        Verdict::Accept(x) => {
+        Ok(x) => {
             rt.write_all(b" 0 0,")?;
             print(rt, wire::size(x.version))?;
             print(rt, wire::size(x.n_texs))?;

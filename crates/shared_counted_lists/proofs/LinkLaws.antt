@@ -1,4 +1,6 @@
 -- A row with an id or NONE and a count: what each step of `link_row` says of it.
+use Rattle.layout.specs.Refused.{refusal_at}
+use Rattle.std.specs.Prelude.{Ok, Err}
 use Prim.Native.Nat.{ℕ, suc, ◌+◌, ◌-◌, ◌*◌, ◌<◌, ◌≤◌}
 use native.Mathlib.Omega.{arith}
 use mathlib.Core.Bool.{Bool, true, false, not}
@@ -19,7 +21,6 @@ use Rattle.layout.proofs.StepLaws.{length-words-of, row-enough, row-short}
 use Rattle.layout.proofs.CountLaws.{judged-one}
 use Rattle.shared_ids.specs.Ids.{link_row}
 use Rattle.shared_counted_lists.specs.Runs.{Runs}
-use Rattle.shared_counted_lists.specs.declared.Ran.TheVariants as ran
 use Rattle.shared_ids.proofs.IdLaws.{word-at}
 
 link_length : (front between limit : ℕ) → length (link_row front between limit) ≡ front + between + 2
@@ -38,7 +39,7 @@ link_judged front between limit p ws a l =
     ∙ bind_cong (check (holds (names_or_none limit) (get_or ws front 0)) 7 (p + 4 * front)) (λ _ _. last)
 
 module _ (s : List ℕ) (c : Cursor) (front between limit : ℕ) (inside : Inside c (length s)) where
-  pub link_cut : c.end - c.at < 4 * (front + between + 2) → Runs (row (link_row front between limit) c.at (left c s)) c (4 * (front + between + 2)) (ran.Reject 5 c.at)
+  pub link_cut : c.end - c.at < 4 * (front + between + 2) → Runs (row (link_row front between limit) c.at (left c s)) c (4 * (front + between + 2)) (Err (refusal_at 5 c.at))
   link_cut h =
       let l = link_length front between limit in
       record { is = rw (row-short (link_row front between limit) c.at (left c s) (omega (arith, left-length s c inside))); passes = inside.before }
@@ -60,7 +61,7 @@ module _ (s : List ℕ) (c : Cursor) (front between limit : ℕ) (inside : Insid
         ∙ link_judged front between limit c.at ws (record { value = ws; place = c.at + 4 * n; left = drop (4 * n) (left c s) }) (length-words-of n (left c s) many))
 
     module _ (id : ℕ) (e : id ≡ word_at s (c.at + 4 * front)) (ok : Bool) (f : ok ≡ holds (names_or_none limit) id) where
-      pub link_unnamed : not ok ≡ true → Runs (row (link_row front between limit) c.at (left c s)) c (4 * (front + between + 2)) (ran.Reject 7 (c.at + 4 * front))
+      pub link_unnamed : not ok ≡ true → Runs (row (link_row front between limit) c.at (left c s)) c (4 * (front + between + 2)) (Err (refusal_at 7 (c.at + 4 * front)))
       unfolding check
       link_unnamed h =
           let g : holds (names_or_none limit) (word_at s (c.at + 4 * front)) ≡ false = rw (← e) (sym f ∙ not-true ok h) in
@@ -70,13 +71,13 @@ module _ (s : List ℕ) (c : Cursor) (front between limit : ℕ) (inside : Insid
         good : holds (names_or_none limit) (word_at s (c.at + 4 * front)) ≡ true
         good = rw (← e) (sym f ∙ not-false ok h)
 
-        pub link_over : 2147483647 < last → Runs (row (link_row front between limit) c.at (left c s)) c (4 * (front + between + 2)) (ran.Reject 6 (c.at + 4 * front + 4 + 4 * between))
+        pub link_over : 2147483647 < last → Runs (row (link_row front between limit) c.at (left c s)) c (4 * (front + between + 2)) (Err (refusal_at 6 (c.at + 4 * front + 4 + 4 * between)))
         unfolding check
         link_over k =
             let g : holds count (word_at s (c.at + 4 * front + 4 + 4 * between)) ≡ false = rw (← q) (lt-leb last 2147483647 k) in
             record { is = rw (words, good, g); passes = omega arith }
 
-        pub link_good : last ≤ 2147483647 → Runs (row (link_row front between limit) c.at (left c s)) c (4 * (front + between + 2)) (ran.Accept (record { at = c.at + 4 * (front + between + 2); end = c.end }))
+        pub link_good : last ≤ 2147483647 → Runs (row (link_row front between limit) c.at (left c s)) c (4 * (front + between + 2)) (Ok (record { at = c.at + 4 * (front + between + 2); end = c.end }))
         unfolding check
         link_good k =
             let g : holds count (word_at s (c.at + 4 * front + 4 + 4 * between)) ≡ true = rw (← q) (le-leb last 2147483647 k) in

@@ -1,4 +1,6 @@
 -- An item that is one number against a rule: what the number that stands at a cursor says of it.
+use Rattle.std.specs.Prelude.{Some, None}
+use Rattle.std.specs.Prelude as std
 use Prim.Native.Nat.{ℕ, ◌+◌, ◌<◌, ◌≤◌}
 use native.Mathlib.Omega.{arith}
 use mathlib.Core.Bool.{true, false}
@@ -9,21 +11,19 @@ use borrow.Author.Tests.{le-leb, lt-leb}
 use Rattle.wire.specs.Bytes.{word_at}
 use Rattle.wire.specs.Cursors.{Inside, left, number_at}
 use Rattle.wire.specs.declared.Cursor.{Cursor}
-use Rattle.wire.specs.declared.Number.{Number}
-use Rattle.wire.specs.declared.Number.TheVariants as number
 use Rattle.wire.proofs.AnswerLaws.{Numbered, numbered, number_cut, left-length, left-four}
 use Rattle.layout.specs.Result.{accept, reject, check}
 use Rattle.layout.specs.Parts.{words, judged, row}
 use Rattle.layout.specs.Rules.{Rule, up_to, holds, refusal}
 use Rattle.layout.proofs.StepLaws.{row-short}
 
-module _ (s : List ℕ) (c : Cursor) (inside : Inside c (length s)) (r : Number) (e : r ≡ number_at s c) where
-  pub head_cut : (rule : Rule) → r ≡ number.Cut → row (rule ∷ []) c.at (left c s) ≡ reject 5 c.at
+module _ (s : List ℕ) (c : Cursor) (inside : Inside c (length s)) (r : std.Option (ℕ × Cursor)) (e : r ≡ number_at s c) where
+  pub head_cut : (rule : Rule) → r ≡ None → row (rule ∷ []) c.at (left c s) ≡ reject 5 c.at
   head_cut rule w =
       let short = number_cut s c (sym e ∙ w) in
       row-short (rule ∷ []) c.at (left c s) (omega (arith, left-length s c inside))
 
-  module _ (k : ℕ) (n : Cursor) (w : r ≡ number.Is k n) where
+  module _ (k : ℕ) (n : Cursor) (w : r ≡ Some (k, n)) where
     pub head-numbered : Numbered s c k n
     head-numbered = numbered s c k n (sym e ∙ w)
 

@@ -1,5 +1,5 @@
 -- So many items one after the other, with a total of what they hold: those that a loop has passed, and those that are left.
-use Prim.Native.Nat.{ℕ, suc, ◌-◌, ◌<◌, ◌≤◌}
+use Prim.Native.Nat.{ℕ, suc, ◌<◌, ◌≤◌}
 use native.Mathlib.Omega.{arith}
 use mathlib.Core.Path.{◌≡◌, refl, ap, sym, ◌∙◌}
 use mathlib.Core.List.{List, [], ◌∷◌}
@@ -42,13 +42,12 @@ module _ {A T : Type 0} (item : ℕ → List ℕ → Result (Step A)) (after : T
         behind a (reject e p) = refl
 
         pub walk-on : (x : Step A) → item c.at (left c s) ≡ accept x → (m : Cursor) → m.at ≡ x.place → m.end ≡ c.end → m.at ≤ m.end
-            → Walk s n from m start (more - 1) (add total x.value)
-        walk-on x q m at end room =
+            → (others : ℕ) → more ≡ suc others → Walk s n from m start others (add total x.value)
+        walk-on x q m at end room others k =
             let i = w.inside in
             let v = moves c.at (left c s) x q in
             let l : left m s ≡ x.left = left-drop s c v.by m (at ∙ v.to) end ∙ sym v.rest in
-            let k : more ≡ suc (more - 1) = omega arith in
-            let first : mapped (after total) (times (suc (more - 1)) item c.at (left c s)) ≡ mapped (after (add total x.value)) (times (more - 1) item x.place x.left) = rw (times-one item c.at (left c s) (more - 1), q) (behind x.value (times (more - 1) item x.place x.left)) in
+            let first : mapped (after total) (times (suc others) item c.at (left c s)) ≡ mapped (after (add total x.value)) (times others item x.place x.left) = rw (times-one item c.at (left c s) others, q) (behind x.value (times others item x.place x.left)) in
             record {
               inside = record { before = room; within = omega arith };
               same = end ∙ w.same;

@@ -29,13 +29,11 @@ pub fn first_invalid(s: &[u8], c: Cursor, n: usize, limit: usize, absent: bool) 
     ensures { (result ≡ first_bad (id_rule absent limit) (words_of n (left c s.now))) × (result ≤ n) }
 {
     let start = c.at;
-    let mut i: usize = 0;
-    while i < n {
+    for i in 0..n {
         let id = wire::number_at(s, start + 4 * i);
         if !id_valid(id, limit, absent) {
             return i;
         }
-        i += 1;
     }
-    i
+    n
 }

@@ -30,10 +30,8 @@ pub fn copy_bytes(src: &[u8], from: usize, count: usize, out: &mut [u8])
     requires { (from + count ≤ length src.now) × (count ≤ length out.old) }
     ensures { Wrote out.old (take count (drop from src.now)) out.new }
 {
-    let mut i: usize = 0;
-    while i < count {
+    for i in 0..count {
         out[i] = src[from + i];
-        i += 1;
     }
 }
 
@@ -44,11 +42,9 @@ pub fn put_words(words: &[u32], first: usize, count: usize, out: &mut [u8]) -> u
     ensures { Put (write_words (take count (drop first words.now)) []) out.old out.new result }
 {
     let mut at: usize = 0;
-    let mut i: usize = 0;
-    while i < count {
+    for i in 0..count {
         wire::put_number(&mut out[at..], words[first + i]);
         at += 4;
-        i += 1;
     }
     at
 }

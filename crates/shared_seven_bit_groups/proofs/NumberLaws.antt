@@ -1,7 +1,11 @@
 -- A law for each way through the functions.
+use Rattle.layout.specs.Refused.{refusal_at}
+use Rattle.std.specs.Prelude.{Ok, Err}
+use Rattle.std.specs.Prelude as std
+use Rattle.layout.specs.declared.Refusal.{Refusal}
 use mathlib.Core.Path.{◌≡◌, refl, ap, sym, ◌∙◌}
 use mathlib.Core.Logic.{inl, inr}
-use Prim.Native.Nat.{ℕ, zero, suc, ◌+◌, ◌-◌, ◌*◌, ◌/◌, ◌%◌, ◌<◌, ◌≤◌}
+use Prim.Native.Nat.{ℕ, suc, ◌+◌, ◌-◌, ◌*◌, ◌/◌, ◌%◌, ◌<◌, ◌≤◌}
 use native.Mathlib.Numerals.{add-one}
 use native.Mathlib.Nat.{add-zero, add-suc, suc-add}
 use native.Mathlib.Omega.{arith}
@@ -12,8 +16,6 @@ use Rattle.layout.specs.Result.{Result, reject, check, ◌>>=◌}
 use Rattle.layout.specs.Parts.{Step}
 use Rattle.shared_seven_bit_groups.specs.Groups.{front, groups, groups_of, goes_on, last, read_in, read_number, grouped}
 use Rattle.shared_seven_bit_groups.specs.Puts.{PutAt}
-use Rattle.shared_seven_bit_groups.specs.declared.Grouped.{Grouped}
-use Rattle.shared_seven_bit_groups.specs.declared.Grouped.TheVariants as number
 use Rattle.shared_seven_bit_groups.proofs.GroupLaws.{front-none, front-more, front-append, front_of, count_none, count_more, count_is, groups-most}
 use Rattle.shared_seven_bit_groups.proofs.Laws.{read-last, read_more, last_fits, last-over, goes_on_is, goes-not}
 
@@ -99,64 +101,65 @@ pub ruleset groups_laws = (groups-fit, groups_slot, groups-done)
 
 -- ---- `read_number`: what the groups from p on give is what was to be read from the start
 
-pub record GroupsLeft (s : List ℕ) (at most left v p : ℕ) : Type 0 where
-  pub rest : read_in at most left v p (drop p s) ≡ read_number most at (drop at s)
+-- k groups are read, which make the number v
+pub record GroupsLeft (s : List ℕ) (at most k v p : ℕ) : Type 0 where
+  pub rest : read_in at most (groups_of most - k) v p (drop p s) ≡ read_number most at (drop at s)
   pub low : v * 128 ≤ most
 
 module _ (s : List ℕ) (at most : ℕ) where
-  pub groups_start : (left : ℕ) → left ≡ groups_of most → GroupsLeft s at most left 0 at
+  pub groups_start : GroupsLeft s at most 0 0 at
   unfolding read_number
-  groups_start left e = record { rest = rw e; low = omega arith }
+  groups_start = let e : groups_of most - 0 ≡ groups_of most = omega arith in record { rest = rw e; low = omega arith }
 
-  module _ (left v p : ℕ) (g : GroupsLeft s at most left v p) where
-    gives : (o : Result (Step ℕ)) → read_in at most left v p (drop p s) ≡ o → (r : Grouped) → r ≡ grouped o → r ≡ grouped (read_number most at (drop at s))
-    gives o e r h = h ∙ ap grouped (sym e ∙ g.rest)
+  module _ (k v p : ℕ) (g : GroupsLeft s at most k v p) (n : ℕ) (e : n ≡ groups_of most) where
+    gives : (o : Result (Step ℕ)) → read_in at most (groups_of most - k) v p (drop p s) ≡ o → (r : std.Result (ℕ × ℕ) Refusal) → r ≡ grouped o → r ≡ grouped (read_number most at (drop at s))
+    gives o f r h = h ∙ ap grouped (sym f ∙ g.rest)
 
-    pub no_group : left ≤ 0 → number.Reject 13 at ≡ grouped (read_number most at (drop at s))
+    pub no_group : n ≤ k → Err (refusal_at 13 at) ≡ grouped (read_number most at (drop at s))
     unfolding read_in
-    no_group h = let z : left ≡ 0 = omega arith in gives (reject 13 at) (rw z) (number.Reject 13 at) refl
+    no_group h = let z : groups_of most - k ≡ 0 = omega (arith, e) in gives (reject 13 at) (rw z) (Err (refusal_at 13 at)) refl
 
-    module _ (h : 0 < left) where
-      one : left ≡ suc (left - 1)
-      one = omega arith
+    module _ (h : k < n) where
+      one : groups_of most - k ≡ suc (groups_of most - (k + 1))
+      one = omega (arith, e)
 
-      pub bytes_end : length s ≤ p → number.Reject 13 p ≡ grouped (read_number most at (drop at s))
+      pub bytes_end : length s ≤ p → Err (refusal_at 13 p) ≡ grouped (read_number most at (drop at s))
       unfolding read_in
-      bytes_end i = gives (reject 13 p) (rw (one, drop_of_length-le s i)) (number.Reject 13 p) refl
+      bytes_end i = gives (reject 13 p) (rw (one, drop_of_length-le s i)) (Err (refusal_at 13 p)) refl
 
       module _ (i : p < length s) where
         abbrev b : ℕ
         b = get_or s p 0
 
-        here : read_in at most left v p (drop p s) ≡ read_in at most (suc (left - 1)) v p (b ∷ drop (p + 1) s)
+        here : read_in at most (groups_of most - k) v p (drop p s) ≡ read_in at most (suc (groups_of most - (k + 1))) v p (b ∷ drop (p + 1) s)
         here = rw (add-one p, ← one, ← drop-cons s p 0 i)
 
         module _ (j : get_or s p 0 < 128) where
-          is_last : read_in at most left v p (drop p s) ≡ last at most (v * 128 + b) (p + 1) (drop (p + 1) s)
-          is_last = here ∙ read-last at most (left - 1) v p b (drop (p + 1) s) j
+          is_last : read_in at most (groups_of most - k) v p (drop p s) ≡ last at most (v * 128 + b) (p + 1) (drop (p + 1) s)
+          is_last = here ∙ read-last at most (groups_of most - (k + 1)) v p b (drop (p + 1) s) j
 
-          pub number_over : most < v * 128 + get_or s p 0 → number.Reject 13 at ≡ grouped (read_number most at (drop at s))
-          number_over k = gives (reject 13 at) (is_last ∙ last-over at most (v * 128 + b) (p + 1) (drop (p + 1) s) k) (number.Reject 13 at) refl
+          pub number_over : most < v * 128 + get_or s p 0 → Err (refusal_at 13 at) ≡ grouped (read_number most at (drop at s))
+          number_over o = gives (reject 13 at) (is_last ∙ last-over at most (v * 128 + b) (p + 1) (drop (p + 1) s) o) (Err (refusal_at 13 at)) refl
 
-          pub number_is : v * 128 + get_or s p 0 ≤ most → number.Accept (v * 128 + get_or s p 0) (p + 1) ≡ grouped (read_number most at (drop at s))
-          number_is k = gives _ (is_last ∙ last_fits at most (v * 128 + b) (p + 1) (drop (p + 1) s) k) (number.Accept (v * 128 + b) (p + 1)) refl
+          pub number_is : v * 128 + get_or s p 0 ≤ most → Ok (v * 128 + get_or s p 0, p + 1) ≡ grouped (read_number most at (drop at s))
+          number_is o = gives _ (is_last ∙ last_fits at most (v * 128 + b) (p + 1) (drop (p + 1) s) o) (Ok (v * 128 + b, p + 1)) refl
 
         module _ (j : 128 ≤ get_or s p 0) where
           abbrev w : ℕ
           w = v * 128 + (b - 128)
 
-          is_more : read_in at most left v p (drop p s) ≡ (check (goes_on most w) 13 at >>= λ _. read_in at most (left - 1) w (p + 1) (drop (p + 1) s))
-          is_more = here ∙ read_more at most (left - 1) v p b (drop (p + 1) s) j
+          is_more : read_in at most (groups_of most - k) v p (drop p s) ≡ (check (goes_on most w) 13 at >>= λ _. read_in at most (groups_of most - (k + 1)) w (p + 1) (drop (p + 1) s))
+          is_more = here ∙ read_more at most (groups_of most - (k + 1)) v p b (drop (p + 1) s) j
 
-          pub number_empty : v * 128 + (get_or s p 0 - 128) ≡ 0 → number.Reject 13 at ≡ grouped (read_number most at (drop at s))
-          number_empty k = gives (reject 13 at) (is_more ∙ goes-not at most w _ (inl k)) (number.Reject 13 at) refl
+          pub number_empty : v * 128 + (get_or s p 0 - 128) ≡ 0 → Err (refusal_at 13 at) ≡ grouped (read_number most at (drop at s))
+          number_empty o = gives (reject 13 at) (is_more ∙ goes-not at most w _ (inl o)) (Err (refusal_at 13 at)) refl
 
-          pub number_far : most / 128 < v * 128 + (get_or s p 0 - 128) → number.Reject 13 at ≡ grouped (read_number most at (drop at s))
-          number_far k = gives (reject 13 at) (is_more ∙ goes-not at most w _ (inr (omega arith))) (number.Reject 13 at) refl
+          pub number_far : most / 128 < v * 128 + (get_or s p 0 - 128) → Err (refusal_at 13 at) ≡ grouped (read_number most at (drop at s))
+          number_far o = gives (reject 13 at) (is_more ∙ goes-not at most w _ (inr (omega arith))) (Err (refusal_at 13 at)) refl
 
           pub groups_next : (v * 128 + (get_or s p 0 - 128) ≡ 0 → ⊥) → v * 128 + (get_or s p 0 - 128) ≤ most / 128
-              → GroupsLeft s at most (left - 1) (v * 128 + (get_or s p 0 - 128)) (p + 1)
-          groups_next k l =
+              → GroupsLeft s at most (k + 1) (v * 128 + (get_or s p 0 - 128)) (p + 1)
+          groups_next o l =
               let low : w * 128 ≤ most = omega arith in
               record { rest = sym (is_more ∙ rw (goes_on_is at most w (omega arith) low)) ∙ g.rest; low = low }
 

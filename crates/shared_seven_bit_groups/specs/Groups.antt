@@ -1,11 +1,12 @@
 -- Numbers in groups of seven bits: the highest group first, the top bit set on all but the last byte, in the shortest form. 128 is 81 00.
-use Rattle.std.specs.Prelude.{ℕ, zero, suc, ◌+◌, ◌-◌, ◌*◌, ◌/◌, ◌%◌, ◌≤◌, Bool, ◌&&◌, List, [], ◌∷◌, length, leb, ltb}
+use Rattle.layout.specs.Refused.{refusal_at}
+use Rattle.std.specs.Prelude as std
+use Rattle.layout.specs.declared.Refusal.{Refusal}
+use Rattle.std.specs.Prelude.{ℕ, zero, suc, ◌+◌, ◌-◌, ◌*◌, ◌/◌, ◌%◌, ◌≤◌, Bool, ◌&&◌, List, [], ◌∷◌, length, leb, ltb, Ok, Err}
 use Rattle.wire.specs.Test.{if}
 use Rattle.layout.specs.Result.{Result, accept, reject, check, ◌>>=◌}
 use Rattle.layout.specs.Parts.{Step}
 use Rattle.layout.specs.Refusals as refusals
-use Rattle.shared_seven_bit_groups.specs.declared.Grouped.{Grouped}
-use Rattle.shared_seven_bit_groups.specs.declared.Grouped.TheVariants as number
 
 -- ---- writing, before what follows
 
@@ -77,6 +78,6 @@ read_numbers (m ∷ ms) p s = do
 -- ---- what the code answers for what was read
 
 -- what code answers for a number that was read
-abbrev pub grouped : Result (Step ℕ) → Grouped
-grouped (accept x) = number.Accept x.value x.place
-grouped (reject n p) = number.Reject n p
+abbrev pub grouped : Result (Step ℕ) → std.Result (ℕ × ℕ) Refusal
+grouped (accept x) = Ok (x.value, x.place)
+grouped (reject n p) = Err (refusal_at n p)

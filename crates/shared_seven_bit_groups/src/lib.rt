@@ -6,14 +6,7 @@ ghost use Rattle.std.specs.Prelude.{◌≡◌, ◌+◌, ◌≤◌, [], length, d
 ghost use Rattle.shared_seven_bit_groups.specs.Groups.{front, groups, groups_of, read_number, grouped};
 ghost use Rattle.shared_seven_bit_groups.specs.Puts.{PutAt};
 
-use layout::refusals;
-
-// A number and the place after its groups, or the refusal 13 with its place.
-#[derive(Clone, Copy)]
-pub enum Grouped {
-    Accept(u32, usize),
-    Reject(u32, usize),
-}
+use layout::{Refusal, refusals};
 
 // Returns how many groups `n` takes: 1 to 5.
 pub fn groups_of(n: u32) -> usize
@@ -53,33 +46,40 @@ pub fn put_groups(n: u32, out: &mut [u8], at: usize) -> usize
 
 // Reads the number at place `at` of `s`, which is at most `most`. Returns it and the place after it; or 13 at `at` if its bytes make it wrong, at the first
 // byte that is missing if it is cut.
-pub fn read_number(s: &[u8], at: usize, most: u32) -> Grouped
+pub fn read_number(s: &[u8], at: usize, most: u32) -> Result<(u32, usize), Refusal>
     ensures { result ≡ grouped (read_number most at (drop at s.now)) }
 {
-    let mut left = groups_of(most);
     let mut v: u32 = 0;
     let mut p = at;
-    while 0 < left {
+    for _ in 0..groups_of(most) {
         if s.len() <= p {
-            return Grouped::Reject(refusals::NO_SLIP, p);
+            return Err(Refusal {
+                number: refusals::NO_SLIP,
+                place: p,
+            });
         }
         let b = s[p] as u32;
-        left -= 1;
         p += 1;
         if b < 128 {
             let n = v * 128 + b;
             if most < n {
-                return Grouped::Reject(refusals::NO_SLIP, at);
+                return Err(Refusal {
+                    number: refusals::NO_SLIP,
+                    place: at,
+                });
             }
-            return Grouped::Accept(n, p);
+            return Ok((n, p));
         }
         v = v * 128 + (b - 128);
-        if v == 0 {
-            return Grouped::Reject(refusals::NO_SLIP, at);
-        }
-        if most / 128 < v {
-            return Grouped::Reject(refusals::NO_SLIP, at);
+        if v == 0 || most / 128 < v {
+            return Err(Refusal {
+                number: refusals::NO_SLIP,
+                place: at,
+            });
         }
     }
-    Grouped::Reject(refusals::NO_SLIP, at)
+    Err(Refusal {
+        number: refusals::NO_SLIP,
+        place: at,
+    })
 }

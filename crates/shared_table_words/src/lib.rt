@@ -18,16 +18,13 @@ pub fn cell(n: usize) -> u32
     n as u32
 }
 
-// Stores `shared_table_words` in `out` from word `base` on; no cell changes nothing.
+// Stores `cells` in `out` from word `base` on; no cell changes nothing.
 pub fn put_cells(out: &mut [u32], base: usize, cells: &[u32])
     requires { base + length cells.now ≤ length out.old }
     ensures { out.new ≡ stored out.old base cells.now }
 {
-    let mut i: usize = 0;
-    while i < cells.len() {
-        let o = base + i;
-        out[o] = cells[i];
-        i += 1;
+    for i in 0..cells.len() {
+        out[base + i] = cells[i];
     }
 }
 
@@ -36,11 +33,8 @@ pub fn put_same(v: u32, n: usize, base: usize, out: &mut [u32])
     requires { base + n ≤ length out.old }
     ensures { out.new ≡ stored out.old base (replicate n v) }
 {
-    let mut i: usize = 0;
-    while i < n {
-        let o = base + i;
-        out[o] = v;
-        i += 1;
+    for i in 0..n {
+        out[base + i] = v;
     }
 }
 
@@ -49,11 +43,8 @@ pub fn copy_run(file: &[u8], at: usize, n: usize, base: usize, out: &mut [u32])
     requires { (at + 4 * n ≤ length file.now) × (base + n ≤ length out.old) }
     ensures { out.new ≡ stored out.old base (words_at n file.now at) }
 {
-    let mut i: usize = 0;
-    while i < n {
-        let o = base + i;
-        out[o] = wire::number_at(file, at + 4 * i);
-        i += 1;
+    for i in 0..n {
+        out[base + i] = wire::number_at(file, at + 4 * i);
     }
 }
 

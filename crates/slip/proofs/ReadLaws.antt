@@ -1,6 +1,9 @@
 -- A law for each way through `read_slip`.
+use Rattle.std.specs.Prelude.{Ok, Err}
+use Rattle.std.specs.Prelude as std
+use Rattle.layout.specs.declared.Refusal.{Refusal}
 use mathlib.Core.Path.{◌≡◌, refl, ap, sym, ◌∙◌}
-use Prim.Native.Nat.{ℕ, suc, ◌+◌, ◌-◌, ◌*◌, ◌<◌, ◌≤◌}
+use Prim.Native.Nat.{ℕ, ◌+◌, ◌-◌, ◌*◌, ◌<◌, ◌≤◌}
 use native.Mathlib.Numerals.{add-one}
 use native.Mathlib.Omega.{arith}
 use mathlib.Core.List.{List, [], ◌∷◌, ◌++◌, append_assoc, append-nil}
@@ -10,9 +13,8 @@ use lib.Dec.{leb}
 use borrow.Author.Tests.{lt-leb}
 use Rattle.layout.specs.Result.{Result, accept, reject, check, ◌>>=◌}
 use Rattle.layout.specs.Parts.{Step}
+use Rattle.layout.proofs.AnswerLaws.{pair_inj}
 use Rattle.shared_seven_bit_groups.specs.Groups.{groups_of, read_number, read_numbers, grouped}
-use Rattle.shared_seven_bit_groups.specs.declared.Grouped.{Grouped}
-use Rattle.shared_seven_bit_groups.specs.declared.Grouped.TheVariants as number
 use Rattle.shared_seven_bit_groups.proofs.NumberLaws.{word-groups}
 use Rattle.shared_seven_bit_groups.proofs.PlaceLaws.{Moved, Placed, number-placed}
 use Rattle.slip.specs.Slips.{limits, limit_at, read_slip, slip_of, read_slip_answer, read_within}
@@ -50,13 +52,13 @@ record Was (o : Result (Step ℕ)) (n q : ℕ) : Type 0 where
   value : step.value ≡ n
   place : step.place ≡ q
 
-was-number : (o : Result (Step ℕ)) (n q : ℕ) → grouped o ≡ number.Accept n q → Was o n q
-was-number (accept x) n q e = record { step = x; is = refl; value = cc; place = cc }
+was-number : (o : Result (Step ℕ)) (n q : ℕ) → grouped o ≡ Ok (n, q) → Was o n q
+was-number (accept x) n q e = let h = pair_inj _ _ _ _ e in record { step = x; is = refl; value = h.0; place = h.1 }
 was-number (reject k p) n q e = let z : ◌≡◌ {A = ℕ} 0 1 = cc in absurd (omega arith)
 
-was-refused : (o : Result (Step ℕ)) (k p : ℕ) → grouped o ≡ number.Reject k p → o ≡ reject k p
-was-refused (accept x) k p e = let z : ◌≡◌ {A = ℕ} 0 1 = cc in absurd (omega arith)
-was-refused (reject n q) k p e = cc
+was-refused : (o : Result (Step ℕ)) (k : Refusal) → grouped o ≡ Err k → o ≡ reject k.number k.place
+was-refused (accept x) k e = let z : ◌≡◌ {A = ℕ} 0 1 = cc in absurd (omega arith)
+was-refused (reject n q) k e = cc
 
 -- ---- the loop: the numbers from i on are left, at `at`; those before are held
 
@@ -83,7 +85,7 @@ module _ (s : List ℕ) where
   read_all x e = rw e
 
   module _ (numbers : List ℕ) (at i : ℕ) (g : SlipLeft s numbers at i) where
-    module _ (h : i < 12) (m : ℕ) (e : m ≡ limit_at i) (r : Grouped) (f : r ≡ grouped (read_number m at (drop at s))) where
+    module _ (h : i < 12) (m : ℕ) (e : m ≡ limit_at i) (r : std.Result (ℕ × ℕ) Refusal) (f : r ≡ grouped (read_number m at (drop at s))) where
       here : read_numbers limits 0 s ≡ ahead (take i numbers) (read_numbers (m ∷ drop (i + 1) limits) at (drop at s))
       here = g.rest ∙ rw (limits-next i h, e)
 
@@ -91,23 +93,23 @@ module _ (s : List ℕ) where
       groups_few = word-groups m (omega (arith, e, limit-word i))
 
       -- refused
-      module _ (k p : ℕ) (z : r ≡ number.Reject k p) where
-        refused : read_number m at (drop at s) ≡ reject k p
-        refused = was-refused (read_number m at (drop at s)) k p (sym f ∙ z)
+      module _ (k : Refusal) (z : r ≡ Err k) where
+        refused : read_number m at (drop at s) ≡ reject k.number k.place
+        refused = was-refused (read_number m at (drop at s)) k (sym f ∙ z)
 
-        placed : Placed at (groups_of m) (drop at s) (reject k p)
+        placed : Placed at (groups_of m) (drop at s) (reject k.number k.place)
         placed = rw refused at (number-placed m at (drop at s))
 
-        pub place_near : p ≤ 60
+        pub place_near : k.place ≤ 60
         place_near = omega (arith, placed.1, groups_few, g.near)
 
-        pub slip_refused : (a : Slip) → a ≡ slip_of (reject 13 p) → a ≡ read_slip_answer s
+        pub slip_refused : (a : Slip) → a ≡ slip_of (reject 13 k.place) → a ≡ read_slip_answer s
         slip_refused a j =
-            let n : k ≡ 13 = placed.0 in
-            answers (reject 13 p) (read_bad 13 p (here ∙ first-invalid m (drop (i + 1) limits) at (drop at s) (take i numbers) 13 p (rw n at refused))) a j
+            let n : k.number ≡ 13 = placed.0 in
+            answers (reject 13 k.place) (read_bad 13 k.place (here ∙ first-invalid m (drop (i + 1) limits) at (drop at s) (take i numbers) 13 k.place (rw n at refused))) a j
 
       -- a number
-      module _ (n q : ℕ) (z : r ≡ number.Accept n q) where
+      module _ (n q : ℕ) (z : r ≡ Ok (n, q)) where
         was : Was (read_number m at (drop at s)) n q
         was = was-number (read_number m at (drop at s)) n q (sym f ∙ z)
 

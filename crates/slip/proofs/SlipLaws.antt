@@ -9,7 +9,7 @@ use lib.Dec.{leb, ltb, leb→le, ltb→lt, nltb→le}
 use borrow.Author.Tests.{le-leb, lt-leb, le-ltb}
 use Rattle.wire.specs.Bytes.{AllBytes}
 use Rattle.wire.specs.Test.{if}
-use Rattle.layout.specs.Result.{Result, accept, reject, check, ◌>>=◌}
+use Rattle.layout.specs.Result.{Result, accept, reject, check}
 use Rattle.layout.specs.Parts.{Step}
 use Rattle.layout.specs.Rules.{up_to}
 use Rattle.layout.proofs.ResultLaws.{by_test, by-check, by_got, bad_got, got_inj, if_yes, if_no}

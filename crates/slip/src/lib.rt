@@ -10,7 +10,6 @@ ghost use Rattle.slip.specs.Slips.{limits, limit_at, first_over, slip_of, write_
 
 use b3d_spec::{HIGHEST_VERSION, MOST_SLOTS, Written};
 use layout::refusals;
-use shared_seven_bit_groups::Grouped;
 
 // The answer of the slip reader: refusal number and place, or 0 and 0 with the twelve numbers.
 #[repr(C)]
@@ -38,12 +37,10 @@ fn most(i: usize) -> u32
 fn first_over(numbers: [u32; 12]) -> usize
     ensures { result ≡ first_over limits numbers }
 {
-    let mut i: usize = 0;
-    while i < 12 {
+    for i in 0..12 {
         if most(i) < numbers[i] {
             return i;
         }
-        i += 1;
     }
     12
 }
@@ -53,10 +50,8 @@ fn slip_size(numbers: [u32; 12]) -> usize
     ensures { (result ≡ length (write_numbers numbers [])) × (result ≤ 60) }
 {
     let mut size: usize = 0;
-    let mut i: usize = 0;
-    while i < 12 {
+    for i in 0..12 {
         size += shared_seven_bit_groups::groups_of(numbers[i]);
-        i += 1;
     }
     size
 }
@@ -67,10 +62,8 @@ fn put_slip(numbers: [u32; 12], out: &mut [u8])
     ensures { out.new ≡ over (write_numbers numbers []) out.old }
 {
     let mut at: usize = 0;
-    let mut i: usize = 0;
-    while i < 12 {
+    for i in 0..12 {
         at = shared_seven_bit_groups::put_groups(numbers[i], out, at);
-        i += 1;
     }
 }
 
@@ -122,16 +115,14 @@ pub fn read_slip(slip: &[u8]) -> Slip
 {
     let mut numbers: [u32; 12] = [0; 12];
     let mut at: usize = 0;
-    let mut i: usize = 0;
-    while i < 12 {
+    for i in 0..12 {
         match shared_seven_bit_groups::read_number(slip, at, most(i)) {
-            Grouped::Reject(_, p) => return refused(p),
-            Grouped::Accept(n, next) => {
+            Err(e) => return refused(e.place),
+            Ok((n, next)) => {
                 numbers[i] = n;
                 at = next;
             }
         }
-        i += 1;
     }
     if at < slip.len() {
         return refused(at);

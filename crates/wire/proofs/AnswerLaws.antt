@@ -1,4 +1,6 @@
 -- What an answer says to those who asked: of the bytes read, and of the places of the cursors.
+use Rattle.std.specs.Prelude.{Some, None}
+use Rattle.std.specs.Prelude as std
 use Prim.Native.Nat.{ℕ, zero, suc, ◌+◌, ◌-◌, ◌<◌, ◌≤◌}
 use native.Mathlib.Omega.{arith}
 use mathlib.Core.Bool.{Bool, true, false}
@@ -13,10 +15,6 @@ use Rattle.wire.specs.Bytes.{word_at}
 use Rattle.wire.specs.Test.{if}
 use Rattle.wire.specs.Cursors.{Inside, left, number_at, zero_at, text_of, text_at, header_at}
 use Rattle.wire.specs.declared.Cursor.{Cursor}
-use Rattle.wire.specs.declared.Number.{Number}
-use Rattle.wire.specs.declared.Number.TheVariants as number
-use Rattle.wire.specs.declared.Text.{Text}
-use Rattle.wire.specs.declared.Text.TheVariants as text
 use Rattle.wire.specs.declared.Header.{Header}
 use Rattle.wire.specs.declared.Header.TheVariants as header
 pub use Rattle.wire.proofs.LeftLaws.{NoZero, left-length, left-most, left-nil, left-cons, left-four, left-drop, left-take, left_split, left-bytes}
@@ -36,21 +34,21 @@ pub record Numbered (s : List ℕ) (c : Cursor) (k : ℕ) (n : Cursor) : Type 0 
   pub same : n.end ≡ c.end
   pub is : k ≡ word_at s c.at
 
-abbrev NumberSays : List ℕ → Cursor → Number → Type 0
-NumberSays s c (number.Is k n) = Numbered s c k n
-NumberSays s c number.Cut = c.end - c.at < 4
+abbrev NumberSays : List ℕ → Cursor → std.Option (ℕ × Cursor) → Type 0
+NumberSays s c (Some (k, n)) = Numbered s c k n
+NumberSays s c None = c.end - c.at < 4
 
 number-says : (s : List ℕ) (c : Cursor) → NumberSays s c (number_at s c)
 unfolding number_at
 number-says s c = by-if (NumberSays s c) _ _ _ (λ t. ltb-true _ _ t) (λ t. record { room = omega (arith, ltb-false); to = refl; same = refl; is = refl })
 
-pub numbered : (s : List ℕ) (c : Cursor) (k : ℕ) (n : Cursor) → number_at s c ≡ number.Is k n → Numbered s c k n
+pub numbered : (s : List ℕ) (c : Cursor) (k : ℕ) (n : Cursor) → number_at s c ≡ Some (k, n) → Numbered s c k n
 numbered s c k n e = subst (NumberSays s c) e (number-says s c)
 
-pub number_cut : (s : List ℕ) (c : Cursor) → number_at s c ≡ number.Cut → c.end - c.at < 4
+pub number_cut : (s : List ℕ) (c : Cursor) → number_at s c ≡ None → c.end - c.at < 4
 number_cut s c e = subst (NumberSays s c) e (number-says s c)
 
-module _ (s : List ℕ) (c : Cursor) (r : Number) (k : ℕ) (n : Cursor) (e : r ≡ number_at s c) (w : r ≡ number.Is k n) where
+module _ (s : List ℕ) (c : Cursor) (r : std.Option (ℕ × Cursor)) (k : ℕ) (n : Cursor) (e : r ≡ number_at s c) (w : r ≡ Some (k, n)) where
   pub number-inside : (l : ℕ) → Inside c l → Inside n l
   number-inside l i = let f = numbered s c k n (sym e ∙ w) in omega arith
 
@@ -93,9 +91,9 @@ pub record Texted (s : List ℕ) (c : Cursor) (len : ℕ) (n : Cursor) : Type 0 
   pub long : length (take len (left c s)) ≡ len
   pub nonzero : NoZero (take len (left c s))
 
-abbrev TextSays : List ℕ → Cursor → Text → Type 0
-TextSays s c (text.Is len n) = Texted s c len n
-TextSays s c text.Cut = NoZero (left c s)
+abbrev TextSays : List ℕ → Cursor → std.Option (ℕ × Cursor) → Type 0
+TextSays s c (Some (len, n)) = Texted s c len n
+TextSays s c None = NoZero (left c s)
 
 text_says : (s : List ℕ) (c : Cursor) → TextSays s c (text_at s c)
 unfolding text_at text_of
@@ -114,13 +112,13 @@ text_says s c = go (zero_at (left c s)) (zero-stands (left c s))
           nonzero = z.nonzero;
         }
 
-pub texted : (s : List ℕ) (c : Cursor) (len : ℕ) (n : Cursor) → text_at s c ≡ text.Is len n → Texted s c len n
+pub texted : (s : List ℕ) (c : Cursor) (len : ℕ) (n : Cursor) → text_at s c ≡ Some (len, n) → Texted s c len n
 texted s c len n e = subst (TextSays s c) e (text_says s c)
 
-pub text-cut : (s : List ℕ) (c : Cursor) → text_at s c ≡ text.Cut → NoZero (left c s)
+pub text-cut : (s : List ℕ) (c : Cursor) → text_at s c ≡ None → NoZero (left c s)
 text-cut s c e = subst (TextSays s c) e (text_says s c)
 
-module _ (s : List ℕ) (c : Cursor) (r : Text) (len : ℕ) (n : Cursor) (e : r ≡ text_at s c) (w : r ≡ text.Is len n) where
+module _ (s : List ℕ) (c : Cursor) (r : std.Option (ℕ × Cursor)) (len : ℕ) (n : Cursor) (e : r ≡ text_at s c) (w : r ≡ Some (len, n)) where
   pub text-inside : (l : ℕ) → Inside c l → Inside n l
   text-inside l i = let f = texted s c len n (sym e ∙ w) in omega arith
 

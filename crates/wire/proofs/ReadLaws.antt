@@ -1,4 +1,5 @@
 -- What stands at a cursor, for each outcome of the tests that the code makes.
+use Rattle.std.specs.Prelude.{Some, None}
 use Prim.Native.Nat.{ℕ, zero, suc, ◌+◌, ◌-◌, ◌<◌, ◌≤◌}
 use native.Mathlib.Omega.{arith}
 use native.Mathlib.Nat.{le_refl}
@@ -11,8 +12,6 @@ use Rattle.wire.specs.Bytes.{word_at}
 use Rattle.wire.specs.Test.{if}
 use Rattle.wire.specs.Cursors.{Inside, left, number_at, zero_at, text_of, text_at, header_at}
 use Rattle.wire.specs.declared.Cursor.{Cursor}
-use Rattle.wire.specs.declared.Number.TheVariants as number
-use Rattle.wire.specs.declared.Text.TheVariants as text
 use Rattle.wire.specs.declared.Header.TheVariants as header
 use Rattle.wire.proofs.LeftLaws.{span, NoZero, left-length, left-nil, left-cons, left_split}
 
@@ -42,11 +41,11 @@ pub record Passed (s : List ℕ) (c : Cursor) (at : ℕ) : Type 0 where
 module _ (s : List ℕ) (c : Cursor) where
   -- a number
 
-  pub short_number : c.end - c.at < 4 → number.Cut ≡ number_at s c
+  pub short_number : c.end - c.at < 4 → None ≡ number_at s c
   unfolding number_at if
   short_number h = simp (lt-ltb _ _ h)
 
-  pub whole_number : (n : ℕ) → 4 ≤ c.end - c.at → n ≡ word_at s c.at → number.Is n (record { at = c.at + 4; end = c.end }) ≡ number_at s c
+  pub whole_number : (n : ℕ) → 4 ≤ c.end - c.at → n ≡ word_at s c.at → Some (n, record { at = c.at + 4; end = c.end }) ≡ number_at s c
   unfolding number_at if
   whole_number n h e = simp (le-ltb _ _ h, e)
 
@@ -68,7 +67,7 @@ module _ (s : List ℕ) (c : Cursor) where
               (nonzero_one (left (span c.at at) s) (get_or s at 0) p.nonzero (omega arith));
         }
 
-    pub text_found : at < c.end → get_or s at 0 ≡ 0 → text.Is (at - c.at) (record { at = at + 1; end = c.end }) ≡ text_at s c
+    pub text_found : at < c.end → get_or s at 0 ≡ 0 → Some (at - c.at, record { at = at + 1; end = c.end }) ≡ text_at s c
     unfolding text_at text_of
     text_found h z =
         let to : c.at + (at - c.at) + 1 ≡ at + 1 = omega arith in
@@ -81,7 +80,7 @@ module _ (s : List ℕ) (c : Cursor) where
           to,
         )
 
-    pub text_none : c.end ≤ at → text.Cut ≡ text_at s c
+    pub text_none : c.end ≤ at → None ≡ text_at s c
     unfolding text_at text_of
     text_none h = let same : at ≡ c.end = omega arith in rw (no_zero (left c s) (rw same at p.nonzero))
 

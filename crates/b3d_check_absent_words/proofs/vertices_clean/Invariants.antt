@@ -1,12 +1,8 @@
--- `vertices_clean` looks at each row. The loop has passed those before i; its measure is how many are left.
-use Prim.Native.Nat.{◌-◌}
+-- `vertices_clean` looks at each row. The loop has passed those before i.
 use Rattle.b3d_check_spec.specs.Check.{clean}
 use Rattle.b3d_rule_row_masks.specs.Runs.{run_mask}
 use Rattle.b3d_check_rows.proofs.LoopLaws.{AllFrom}
 use Rattle.b3d_check_absent_words.proofs.vertices_clean.Given as goal
 
 abbrev pub invariant-loop-i : goal.invariant-loop-i
-invariant-loop-i l = AllFrom (clean (run_mask l.g)) 42 l.first l.count l.t l.end l.i
-
-abbrev pub decreases-loop-i : goal.decreases-loop-i
-decreases-loop-i l = l.end - l.i
+invariant-loop-i l = AllFrom (clean (run_mask l.g)) 42 l.first l.count l.t l.i-end l.i

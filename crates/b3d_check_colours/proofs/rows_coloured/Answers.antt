@@ -1,5 +1,4 @@
--- `rows_coloured` looks at each row. The loop has passed those before i; its measure is how many are left.
-use Prim.Native.Nat.{◌-◌}
+-- `rows_coloured` looks at each row. The loop has passed those before i.
 use Rattle.b3d_check_rows.proofs.LoopLaws.{all_laws}
 use Rattle.b3d_check_colours.proofs.ColourRowLaws.{row-among}
 use borrow.Author.Rules.{rules}

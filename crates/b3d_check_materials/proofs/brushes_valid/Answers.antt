@@ -1,5 +1,4 @@
--- `brushes_valid` looks at each row. The loop has passed those before i; its measure is how many are left.
-use Prim.Native.Nat.{◌-◌}
+-- `brushes_valid` looks at each row. The loop has passed those before i.
 use Rattle.b3d_check_rows.proofs.LoopLaws.{all_laws}
 use borrow.Author.Rules.{rules}
 use Rattle.b3d_check_materials.proofs.brushes_valid.Goals as goal
@@ -12,12 +11,6 @@ brush_valid-requires c = search (all_laws, rules)
 
 pub returns-then-not-brush_valid : goal.returns-then-not-brush_valid
 returns-then-not-brush_valid c = search (all_laws, rules)
-
-pub overflow_add-i : goal.overflow_add-i
-overflow_add-i c = search (all_laws, rules)
-
-pub loop-i-smaller : goal.loop-i-smaller
-loop-i-smaller c = search (all_laws, rules)
 
 pub loop-i-preserved : goal.loop-i-preserved
 loop-i-preserved c = search (all_laws, rules)

@@ -1,5 +1,4 @@
--- `textures_valid` looks at each row. The loop has passed those before i; its measure is how many are left.
-use Prim.Native.Nat.{◌-◌}
+-- `textures_valid` looks at each row. The loop has passed those before i.
 use Rattle.b3d_check_rows.proofs.LoopLaws.{all_laws}
 use Rattle.b3d_check_rows.proofs.RowLaws.{name-row}
 use borrow.Author.Rules.{rules}
@@ -31,12 +30,6 @@ name_valid-requires c = search (all_laws, name-row, rules)
 
 pub returns-then-not-name_valid : goal.returns-then-not-name_valid
 returns-then-not-name_valid c = search (all_laws, name-row, rules)
-
-pub overflow_add-i : goal.overflow_add-i
-overflow_add-i c = search (all_laws, name-row, rules)
-
-pub loop-i-smaller : goal.loop-i-smaller
-loop-i-smaller c = search (all_laws, name-row, rules)
 
 pub loop-i-preserved : goal.loop-i-preserved
 loop-i-preserved c = search (all_laws, name-row, rules)

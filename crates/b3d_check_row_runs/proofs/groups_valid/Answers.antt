@@ -1,21 +1,17 @@
--- `groups_valid` looks at each row with its items. The loop has passed those before i; its measure is how many are left.
-use Prim.Native.Nat.{◌-◌}
+-- `groups_valid` looks at each row with its items. The loop has passed those before i.
 use Rattle.std.proofs.Common.{ap, not, eq-eqb}
 use Rattle.b3d_check_row_runs.proofs.GroupLaws.{runs_next, runs_laws}
 use borrow.Author.Rules.{rules}
 use Rattle.b3d_check_row_runs.proofs.groups_valid.Goals as goal
 
-pub overflow_add-end : goal.overflow_add-end
-overflow_add-end c = search (runs_laws, rules)
+pub overflow_add-i-end : goal.overflow_add-i-end
+overflow_add-i-end c = search (runs_laws, rules)
 
 pub loop-i-init : goal.loop-i-init
 loop-i-init c = search (runs_laws, rules)
 
 pub overflow_mul-i : goal.overflow_mul-i
 overflow_mul-i c = search (runs_laws, rules)
-
-pub overflow_add-i : goal.overflow_add-i
-overflow_add-i c = search (runs_laws, rules)
 
 pub cell-to-requires : goal.cell-to-requires
 cell-to-requires c = search (runs_laws, rules)
@@ -46,12 +42,6 @@ returns-then-not-group_valid c = search (runs_laws, rules)
 
 pub overflow_add-r : goal.overflow_add-r
 overflow_add-r c = search (runs_laws, rules)
-
-pub overflow_add-i-in-loop-i-2 : goal.overflow_add-i-in-loop-i-2
-overflow_add-i-in-loop-i-2 c = search (runs_laws, rules)
-
-pub loop-i-smaller : goal.loop-i-smaller
-loop-i-smaller c = search (runs_laws, rules)
 
 pub loop-i-preserved : goal.loop-i-preserved
 loop-i-preserved c = runs_next _ _ _ _ _ _ _ _ _ _ _ c.loop-i.invariant c.loop-i-test.true _ _

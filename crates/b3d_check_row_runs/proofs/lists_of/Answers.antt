@@ -1,5 +1,4 @@
--- `lists_of` stops at the first row that names another node. The loop has passed those before i; its measure is how many are left.
-use Prim.Native.Nat.{◌-◌}
+-- `lists_of` stops at the first row that names another node. The loop has passed those before i.
 use Rattle.b3d_check_row_runs.proofs.MineLaws.{mine_laws}
 use borrow.Author.Rules.{rules}
 use Rattle.b3d_check_row_runs.proofs.lists_of.Goals as goal
@@ -15,12 +14,6 @@ cell-own-requires c = search (mine_laws, rules)
 
 pub returns-then-not-own-node : goal.returns-then-not-own-node
 returns-then-not-own-node c = search (mine_laws, rules)
-
-pub overflow_add-i : goal.overflow_add-i
-overflow_add-i c = search (mine_laws, rules)
-
-pub loop-i-smaller : goal.loop-i-smaller
-loop-i-smaller c = search (mine_laws, rules)
 
 pub loop-i-preserved : goal.loop-i-preserved
 loop-i-preserved c = search (mine_laws, rules)

@@ -1,13 +1,12 @@
--- `id_rows_valid` looks at each row. The loop has passed those before i; its measure is how many are left.
-use Prim.Native.Nat.{◌-◌}
+-- `id_rows_valid` looks at each row. The loop has passed those before i.
 use Rattle.b3d_check_rows.proofs.RowCellLaws.{row_room}
-use Rattle.b3d_check_rows.proofs.RowLaws.{id-fits, id_next}
+use Rattle.b3d_check_rows.proofs.RowLaws.{id-fits}
 use Rattle.b3d_check_rows.proofs.LoopLaws.{all_laws}
 use borrow.Author.Rules.{rules}
 use Rattle.b3d_check_rows.proofs.id_rows_valid.Goals as goal
 
-pub overflow_add-end : goal.overflow_add-end
-overflow_add-end c = search (id-fits, rules)
+pub overflow_add-i-end : goal.overflow_add-i-end
+overflow_add-i-end c = search (id-fits, rules)
 
 pub loop-i-init : goal.loop-i-init
 loop-i-init c = search (all_laws, rules)
@@ -17,12 +16,6 @@ id_row_valid-requires c = search (row_room, rules)
 
 pub returns-then-not-id_row_valid : goal.returns-then-not-id_row_valid
 returns-then-not-id_row_valid c = search (all_laws, rules)
-
-pub overflow_add-i : goal.overflow_add-i
-overflow_add-i c = search (id_next, rules)
-
-pub loop-i-smaller : goal.loop-i-smaller
-loop-i-smaller c = search (all_laws, rules)
 
 pub loop-i-preserved : goal.loop-i-preserved
 loop-i-preserved c = search (all_laws, rules)

@@ -1,29 +1,20 @@
--- `text_valid` looks at each byte. The loop has passed those before i; its measure is how many are left.
-use Prim.Native.Nat.{◌-◌}
-use Rattle.b3d_check_rows.proofs.CellLaws.{cell_laws}
+-- `text_valid` looks at each byte: what `all` answers is `all` of the bytes that it goes over.
+use mathlib.Core.Path.{◌≡◌, ◌∙◌}
+use Prim.Native.Nat.{◌+◌, ◌-◌}
+use native.Mathlib.Omega.{arith}
 use borrow.Author.Rules.{rules}
+use borrow.Author.Tests.{tests}
+use lib.Dec.{ltb}
+use lib.ListN.{take, drop}
+use Rattle.std.proofs.lemmas.Iterator.{YieldsList-from_slice}
+use Rattle.std.proofs.lemmas.Iterator.Search.{all_from_yields_List}
+use Rattle.b3d_check_rows.proofs.AndLaws.{all_is_list_all}
 use Rattle.b3d_check_rows.proofs.text_valid.Goals as goal
 
-pub overflow_add-end : goal.overflow_add-end
-overflow_add-end c = search (cell_laws, rules)
-
-pub loop-i-init : goal.loop-i-init
-loop-i-init c = search (cell_laws, rules)
-
-pub bounds-names-i : goal.bounds-names-i
-bounds-names-i c = search (cell_laws, rules)
-
-pub returns-then-not-one : goal.returns-then-not-one
-returns-then-not-one c = search (cell_laws, rules)
-
-pub overflow_add-i : goal.overflow_add-i
-overflow_add-i c = search (cell_laws, rules)
-
-pub loop-i-smaller : goal.loop-i-smaller
-loop-i-smaller c = search (cell_laws, rules)
-
-pub loop-i-preserved : goal.loop-i-preserved
-loop-i-preserved c = search (cell_laws, rules)
-
 pub returns : goal.returns
-returns c = search (cell_laws, rules)
+returns c =
+    let n : c.args.place + c.args.count - c.args.place ≡ c.args.count = omega arith in
+    let bytes = take c.args.count (drop c.args.place c.args.names.now) in
+    let over = YieldsList-from_slice bytes (rw n at c.iter.ensures.rest) in
+    all_from_yields_List (λ b. ltb 0 b) _ _ c.all.result c.all.ensures.ran over (λ x b q k. search (rules, tests))
+    ∙ all_is_list_all (λ b. ltb 0 b) bytes

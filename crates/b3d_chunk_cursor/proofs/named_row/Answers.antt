@@ -9,8 +9,8 @@ overflow_sub-end c = search (naming, rules)
 pub returns-then-end-at : goal.returns-then-end-at
 returns-then-end-at c = search (naming, rules)
 
-pub returns-in-Cut : goal.returns-in-Cut
-returns-in-Cut c = search (naming, rules)
+pub returns-in_default : goal.returns-in_default
+returns-in_default c = search (naming, rules)
 
-pub returns-else-end-at : goal.returns-else-end-at
-returns-else-end-at c = search (naming, rules)
+pub returns : goal.returns
+returns c = search (naming, rules)

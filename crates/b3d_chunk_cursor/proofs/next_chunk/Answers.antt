@@ -15,11 +15,11 @@ returns-in-End c = search (passing, rules)
 pub returns-in-Cut : goal.returns-in-Cut
 returns-in-Cut c = search (passing, rules)
 
-pub returns-in-Known : goal.returns-in-Known
-returns-in-Known c = search (passing, rules)
-
 pub loop-tag-smaller : goal.loop-tag-smaller
 loop-tag-smaller c = let f = framed _ _ _ _ _ (sym c.header.ensures ∙ c.in-Whole.is) in search rules
 
 pub loop-tag-preserved : goal.loop-tag-preserved
 loop-tag-preserved c = let f = framed _ _ _ _ _ (sym c.header.ensures ∙ c.in-Whole.is) in search (passing, rules)
+
+pub returns-in-Some : goal.returns-in-Some
+returns-in-Some c = search (passing, rules)

@@ -6,9 +6,6 @@ use Rattle.b3d_clear.proofs.clear.Goals as goal
 pub judge-requires : goal.judge-requires
 judge-requires c = search (clear_laws, rules)
 
-pub enum_known-number : goal.enum_known-number
-enum_known-number c = search (clear_laws, rules)
-
 pub cell-requires : goal.cell-requires
 cell-requires c = search (clear_laws, rules)
 
@@ -27,8 +24,8 @@ returns-then-answer-ne0 c = search (clear_laws, rules)
 pub clear_file-requires : goal.clear_file-requires
 clear_file-requires c = search (clear_laws, rules)
 
-pub returns-in-Reject : goal.returns-in-Reject
-returns-in-Reject c = search (clear_laws, rules)
+pub returns-in-Err : goal.returns-in-Err
+returns-in-Err c = search (clear_laws, rules)
 
 pub shape_of-out : goal.shape_of-out
 shape_of-out c = search (clear_laws, rules)

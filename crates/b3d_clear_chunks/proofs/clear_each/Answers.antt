@@ -10,18 +10,6 @@ loop-at-init c = search (each_laws, rules)
 pub seek-requires : goal.seek-requires
 seek-requires c = search (each_laws, rules)
 
-pub enum_told-1 : goal.enum_told-1
-enum_told-1 c = search (each_laws, rules)
-
-pub shape_of-out-in-Nothing : goal.shape_of-out-in-Nothing
-shape_of-out-in-Nothing c = search (each_laws, rules)
-
-pub returns-in-Nothing : goal.returns-in-Nothing
-returns-in-Nothing c = search (each_laws, rules)
-
-pub enum_known-at : goal.enum_known-at
-enum_known-at c = search (each_laws, rules)
-
 pub slice_bounds-clear_chunk-count : goal.slice_bounds-clear_chunk-count
 slice_bounds-clear_chunk-count c = search (each_laws, rules)
 
@@ -42,3 +30,6 @@ loop-at-smaller c = search (each_laws, rules)
 
 pub loop-at-preserved : goal.loop-at-preserved
 loop-at-preserved c = search (each_laws, rules)
+
+pub returns-in_default : goal.returns-in_default
+returns-in_default c = search (each_laws, rules)

@@ -10,18 +10,6 @@ loop-body-init c = search (each_laws, rules)
 pub seek-requires : goal.seek-requires
 seek-requires c = search (each_laws, rules)
 
-pub enum_told-1 : goal.enum_told-1
-enum_told-1 c = search (each_laws, rules)
-
-pub shape_of-out-in-Nothing : goal.shape_of-out-in-Nothing
-shape_of-out-in-Nothing c = search (each_laws, rules)
-
-pub returns-in-Nothing : goal.returns-in-Nothing
-returns-in-Nothing c = search (each_laws, rules)
-
-pub enum_known-body : goal.enum_known-body
-enum_known-body c = search (each_laws, rules)
-
 pub slice_bounds-copy_chunk-count : goal.slice_bounds-copy_chunk-count
 slice_bounds-copy_chunk-count c = search (each_laws, rules)
 
@@ -42,3 +30,6 @@ loop-body-smaller c = search (each_laws, rules)
 
 pub loop-body-preserved : goal.loop-body-preserved
 loop-body-preserved c = search (each_laws, rules)
+
+pub returns-in_default : goal.returns-in_default
+returns-in_default c = search (each_laws, rules)

@@ -6,12 +6,6 @@ use Rattle.b3d_clear_materials.proofs.clear_brushes.Goals as goal
 pub number-requires : goal.number-requires
 number-requires c = search (brus_laws, rules)
 
-pub enum_told-1 : goal.enum_told-1
-enum_told-1 c = search (brus_laws, rules)
-
-pub enum_known-slots : goal.enum_known-slots
-enum_known-slots c = search (brus_laws, rules)
-
 pub returns-then-slots-gt-MOST_SLOTS : goal.returns-then-slots-gt-MOST_SLOTS
 returns-then-slots-gt-MOST_SLOTS c = search (brus_laws, rules)
 
@@ -27,11 +21,11 @@ overflow_add-words c = search (brus_laws, rules)
 pub brus_chunk-requires : goal.brus_chunk-requires
 brus_chunk-requires c = search (brus_laws, rules)
 
-pub returns-in-Cut : goal.returns-in-Cut
-returns-in-Cut c = search (brus_laws, rules)
-
 pub shape_of-out : goal.shape_of-out
 shape_of-out c = search (brus_laws, rules)
 
-pub returns-else-items : goal.returns-else-items
-returns-else-items c = search (brus_laws, rules)
+pub returns-in_default : goal.returns-in_default
+returns-in_default c = search (brus_laws, rules)
+
+pub returns : goal.returns
+returns c = search (brus_laws, rules)

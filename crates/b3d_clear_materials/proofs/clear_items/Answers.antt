@@ -10,18 +10,6 @@ loop-row-init c = search (item_laws, rules)
 pub named_row-requires : goal.named_row-requires
 named_row-requires c = search (item_laws, rules)
 
-pub enum_told-1 : goal.enum_told-1
-enum_told-1 c = search (item_laws, rules)
-
-pub shape_of-out-in-Cut : goal.shape_of-out-in-Cut
-shape_of-out-in-Cut c = search (item_laws, rules)
-
-pub returns-in-Cut : goal.returns-in-Cut
-returns-in-Cut c = search (item_laws, rules)
-
-pub enum_known-row : goal.enum_known-row
-enum_known-row c = search (item_laws, rules)
-
 pub slice_bounds-put_unnamed-count : goal.slice_bounds-put_unnamed-count
 slice_bounds-put_unnamed-count c = search (item_laws, rules)
 
@@ -42,3 +30,6 @@ loop-row-smaller c = search (item_laws, rules)
 
 pub loop-row-preserved : goal.loop-row-preserved
 loop-row-preserved c = search (item_laws, rules)
+
+pub returns-in_default : goal.returns-in_default
+returns-in_default c = search (item_laws, rules)

@@ -17,14 +17,6 @@ pub clear_node-named_row-requires : goal.clear_node-named_row-requires
 clear_node-named_row-requires t c = search (node_laws, rules)
 
 -- clear_node
-pub clear_node-enum_told-1 : goal.clear_node-enum_told-1
-clear_node-enum_told-1 t c = search (node_laws, rules)
-
--- clear_node
-pub clear_node-enum_known-row : goal.clear_node-enum_known-row
-clear_node-enum_known-row t c = search (node_laws, rules)
-
--- clear_node
 pub clear_node-overflow_sub-levels : goal.clear_node-overflow_sub-levels
 clear_node-overflow_sub-levels t c = search (node_laws, rules)
 
@@ -33,16 +25,8 @@ pub clear_node-node_chunk-requires : goal.clear_node-node_chunk-requires
 clear_node-node_chunk-requires t c = search (node_laws, rules)
 
 -- clear_node
-pub clear_node-returns-in-Cut : goal.clear_node-returns-in-Cut
-clear_node-returns-in-Cut t c = search (node_laws, rules)
-
--- clear_node
 pub clear_node-shape_of-out : goal.clear_node-shape_of-out
 clear_node-shape_of-out t c = search (node_laws, rules)
-
--- clear_node
-pub clear_node-returns-in-Is : goal.clear_node-returns-in-Is
-clear_node-returns-in-Is t c = search (node_laws, rules)
 
 -- clear_nodes
 pub clear_nodes-loop-at-init : goal.clear_nodes-loop-at-init
@@ -51,22 +35,6 @@ clear_nodes-loop-at-init t c = search (each_laws, rules)
 -- clear_nodes
 pub clear_nodes-seek-requires : goal.clear_nodes-seek-requires
 clear_nodes-seek-requires t c = search (each_laws, rules)
-
--- clear_nodes
-pub clear_nodes-enum_told-1 : goal.clear_nodes-enum_told-1
-clear_nodes-enum_told-1 t c = search (each_laws, rules)
-
--- clear_nodes
-pub clear_nodes-shape_of-out-in-Nothing : goal.clear_nodes-shape_of-out-in-Nothing
-clear_nodes-shape_of-out-in-Nothing t c = search (each_laws, rules)
-
--- clear_nodes
-pub clear_nodes-returns-in-Nothing : goal.clear_nodes-returns-in-Nothing
-clear_nodes-returns-in-Nothing t c = search (each_laws, rules)
-
--- clear_nodes
-pub clear_nodes-enum_known-at : goal.clear_nodes-enum_known-at
-clear_nodes-enum_known-at t c = search (each_laws, rules)
 
 -- clear_nodes
 pub clear_nodes-slice_bounds-clear_node-count : goal.clear_nodes-slice_bounds-clear_node-count
@@ -165,3 +133,12 @@ pub node_chunk-returns : goal.node_chunk-returns
 node_chunk-returns t c = let second = c in
     let first = second in
     pair_done (code NODE) _ _ _ first.requires.room _ _ first.clear_own-n.ensures _ _ second.clear_nodes-m.ensures _ c.put_header.ensures
+
+pub clear_node-returns-in_default : goal.clear_node-returns-in_default
+clear_node-returns-in_default t c = search (node_laws, rules)
+
+pub clear_node-returns : goal.clear_node-returns
+clear_node-returns t c = search (node_laws, rules)
+
+pub clear_nodes-returns-in_default : goal.clear_nodes-returns-in_default
+clear_nodes-returns-in_default t c = search (each_laws, rules)

@@ -1,5 +1,4 @@
 -- `same_bytes` compares one byte a turn: those from i on are left.
-use Prim.Native.Nat.{◌-◌}
 use borrow.Author.Rules.{rules}
 use Rattle.b3d_compare_difference.proofs.ValueLaws.{bytes_laws}
 use Rattle.b3d_compare_difference.proofs.same_bytes.Goals as goal

@@ -1,5 +1,4 @@
 -- `put_numbers` puts one number a turn: those from i on are left.
-use Prim.Native.Nat.{◌-◌}
 use borrow.Author.Rules.{rules}
 use Rattle.b3d_compare_entries.proofs.EntryLaws.{numbers_laws}
 use Rattle.b3d_compare_entries.proofs.put_numbers.Goals as goal

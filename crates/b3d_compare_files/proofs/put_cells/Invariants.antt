@@ -1,10 +1,6 @@
 -- `put_cells` puts or counts the entries of one table a turn: those from k on are left.
-use Prim.Native.Nat.{◌-◌}
 use Rattle.b3d_compare_files.proofs.FileLaws.{TablesLeft}
 use Rattle.b3d_compare_files.proofs.put_cells.Given as goal
 
 abbrev pub invariant-loop-k : goal.invariant-loop-k
 invariant-loop-k l = TablesLeft l.a l.b l.x l.wet l.initial.out l.at l.out l.next l.k
-
-abbrev pub decreases-loop-k : goal.decreases-loop-k
-decreases-loop-k l = 11 - l.k

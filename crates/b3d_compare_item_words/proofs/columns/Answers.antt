@@ -1,5 +1,4 @@
 -- `columns` stores the words that are there: those from w on are left.
-use Prim.Native.Nat.{◌-◌}
 use Rattle.b3d_compare_item_words.proofs.ColumnLaws.{columns_laws}
 use borrow.Author.Rules.{rules}
 use Rattle.b3d_compare_item_words.proofs.columns.Goals as goal
@@ -9,9 +8,6 @@ loop-w-init c = search (columns_laws, rules)
 
 pub item_has-requires : goal.item_has-requires
 item_has-requires c = search (columns_laws, rules)
-
-pub overflow_add-w : goal.overflow_add-w
-overflow_add-w c = search (columns_laws, rules)
 
 pub loop-w-smaller-then-not-item_has : goal.loop-w-smaller-then-not-item_has
 loop-w-smaller-then-not-item_has c = search (columns_laws, rules)
@@ -27,12 +23,6 @@ bounds-out-n c = search (columns_laws, rules)
 
 pub overflow_add-n : goal.overflow_add-n
 overflow_add-n c = search (columns_laws, rules)
-
-pub overflow_add-w-in-loop-w : goal.overflow_add-w-in-loop-w
-overflow_add-w-in-loop-w c = search (columns_laws, rules)
-
-pub loop-w-smaller : goal.loop-w-smaller
-loop-w-smaller c = search (columns_laws, rules)
 
 pub loop-w-preserved : goal.loop-w-preserved
 loop-w-preserved c = search (columns_laws, rules)

@@ -1,5 +1,4 @@
 -- `put_item_words` puts one word a turn: those from i on are left.
-use Prim.Native.Nat.{◌-◌}
 use Rattle.b3d_compare_item_words.proofs.WordEntryLaws.{words_laws}
 use borrow.Author.Rules.{rules}
 use Rattle.b3d_compare_item_words.proofs.put_item_words.Goals as goal
@@ -36,12 +35,6 @@ item_float-float-requires c = search (words_laws, rules)
 
 pub put_pair-next-requires : goal.put_pair-next-requires
 put_pair-next-requires c = search (words_laws, rules)
-
-pub overflow_add-i : goal.overflow_add-i
-overflow_add-i c = search (words_laws, rules)
-
-pub loop-i-smaller : goal.loop-i-smaller
-loop-i-smaller c = search (words_laws, rules)
 
 pub loop-i-preserved : goal.loop-i-preserved
 loop-i-preserved c = search (words_laws, rules)

@@ -1,5 +1,4 @@
 -- `put_plain` puts one word a turn: those from w on are left.
-use Prim.Native.Nat.{◌-◌}
 use borrow.Author.Rules.{rules}
 use Rattle.b3d_compare_rows.proofs.PutLaws.{plain_laws}
 use Rattle.b3d_compare_rows.proofs.put_plain.Goals as goal
@@ -24,12 +23,6 @@ bounds-y-w c = search (plain_laws, rules)
 
 pub put_word-next-requires : goal.put_word-next-requires
 put_word-next-requires c = record { k_bound = search rules; w_bound = search (plain_laws, rules); room_from = search (plain_laws, rules) }
-
-pub overflow_add-w : goal.overflow_add-w
-overflow_add-w c = search (plain_laws, rules)
-
-pub loop-w-smaller : goal.loop-w-smaller
-loop-w-smaller c = search (plain_laws, rules)
 
 pub loop-w-preserved : goal.loop-w-preserved
 loop-w-preserved c = search (plain_laws, rules)

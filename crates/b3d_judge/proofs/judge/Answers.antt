@@ -1,4 +1,5 @@
 -- `judge` answers what the definition says of a file.
+use Rattle.std.proofs.lemmas.Result.{err_from_is_err_and}
 use Rattle.b3d_judge.proofs.JudgeLaws.{judge_laws}
 use borrow.Author.Rules.{rules}
 use Rattle.b3d_judge.proofs.judge.Goals as goal
@@ -30,9 +31,6 @@ returns-then-size-n c = search (judge_laws, rules)
 pub judge_body-requires : goal.judge_body-requires
 judge_body-requires c = search (judge_laws, rules)
 
-pub enum_known-e : goal.enum_known-e
-enum_known-e c = search (judge_laws, rules)
-
 pub enum_known-x : goal.enum_known-x
 enum_known-x c = search (judge_laws, rules)
 
@@ -45,8 +43,8 @@ over_limit-over-requires c = search (judge_laws, rules)
 pub returns-then-over-ne0 : goal.returns-then-over-ne0
 returns-then-over-ne0 c = search (judge_laws, rules)
 
-pub returns-in-Reject : goal.returns-in-Reject
-returns-in-Reject c = search (judge_laws, rules)
+pub returns-in_err-x : goal.returns-in_err-x
+returns-in_err-x c = let h = c.in_err-x.was in let p = err_from_is_err_and c.from_residual.result c.from_residual.ensures.1 in rw (p.1, p.2) (search (judge_laws, rules))
 
-pub returns-else-over-ne0 : goal.returns-else-over-ne0
-returns-else-over-ne0 c = search (judge_laws, rules)
+pub returns : goal.returns
+returns c = let h = c.in_ok-x.was in search (judge_laws, rules)

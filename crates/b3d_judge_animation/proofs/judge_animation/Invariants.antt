@@ -3,8 +3,8 @@ use Prim.Native.Nat.{◌-◌}
 use Rattle.b3d_judge_animation.proofs.AnimationLaws.{Moving}
 use Rattle.b3d_judge_animation.proofs.judge_animation.Given as goal
 
-abbrev pub invariant-loop-e : goal.invariant-loop-e
-invariant-loop-e l = Moving l.s l.at l.initial.c l.c l.q l.m
+abbrev pub invariant-loop-tag : goal.invariant-loop-tag
+invariant-loop-tag l = Moving l.s l.at l.initial.c l.c l.q l.m
 
-abbrev pub decreases-loop-e : goal.decreases-loop-e
-decreases-loop-e l = l.c.end - l.c.at
+abbrev pub decreases-loop-tag : goal.decreases-loop-tag
+decreases-loop-tag l = l.c.end - l.c.at

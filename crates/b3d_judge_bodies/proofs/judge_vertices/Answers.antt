@@ -1,4 +1,5 @@
 -- `judge_vertices` answers what `read_vertices` reads.
+use Rattle.std.proofs.lemmas.Result.{err_from_is_err_and}
 use borrow.Author.Rules.{rules}
 use Rattle.b3d_judge_bodies.proofs.VertexLaws.{words-room, vertex_laws}
 use Rattle.b3d_judge_bodies.proofs.judge_vertices.Goals as goal
@@ -18,8 +19,8 @@ returns-then-size-gt-LARGEST_SET c = search (vertex_laws, rules)
 pub vertex_items-requires : goal.vertex_items-requires
 vertex_items-requires c = (search rules, search rules, search rules, search rules, words-room _ _ _ _ _ c.vertex_words-words.ensures.0)
 
-pub returns-in-Reject : goal.returns-in-Reject
-returns-in-Reject c = search (vertex_laws, rules)
+pub returns-in_err-count : goal.returns-in_err-count
+returns-in_err-count c = let h = c.in_err-count.was in let p = err_from_is_err_and c.from_residual.result c.from_residual.ensures.1 in rw (p.1, p.2) (search (vertex_laws, rules))
 
-pub returns-in-Accept : goal.returns-in-Accept
-returns-in-Accept c = search (vertex_laws, rules)
+pub returns : goal.returns
+returns c = let h = c.in_ok-count.was in search (vertex_laws, rules)

@@ -9,9 +9,6 @@ use Rattle.b3d_judge_brush_items.proofs.brush_items.Goals as goal
 pub loop-c-init : goal.loop-c-init
 loop-c-init c = search (brushes, rules)
 
-pub returns-in-Cut : goal.returns-in-Cut
-returns-in-Cut c = search (brushes, rules)
-
 pub first_bad_colour-passed-requires : goal.first_bad_colour-passed-requires
 first_bad_colour-passed-requires c = search (brushes, rules)
 
@@ -41,3 +38,6 @@ loop-c-preserved c = search (brushes-one, rules)
 
 pub returns : goal.returns
 returns c = search (brushes_done, brushes-room, rules)
+
+pub returns-in_default : goal.returns-in_default
+returns-in_default c = search (brushes, rules)

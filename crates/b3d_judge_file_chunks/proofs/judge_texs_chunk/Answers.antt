@@ -1,4 +1,5 @@
 -- `judge_texs_chunk` judges the textures, if TEXS comes first.
+use Rattle.std.proofs.lemmas.Result.{err_from_is_err_and}
 use Rattle.b3d_judge_file_chunks.proofs.FileLaws.{texs_laws, texs_rest}
 use borrow.Author.Rules.{rules}
 use Rattle.b3d_judge_file_chunks.proofs.judge_texs_chunk.Goals as goal
@@ -15,38 +16,27 @@ enum_told-1 c = search (texs_laws, rules)
 pub none-requires : goal.none-requires
 none-requires c = search (texs_laws, rules)
 
-pub enum_known-e : goal.enum_known-e
-enum_known-e c = search (texs_laws, rules)
-
-pub enum_known-tag : goal.enum_known-tag
-enum_known-tag c = search (texs_laws, rules)
-
-pub enum_told-in-TEXS : goal.enum_told-in-TEXS
-enum_told-in-TEXS c = search (texs_laws, rules)
-
 pub judge_textures-requires : goal.judge_textures-requires
 judge_textures-requires c = search (texs_laws, rules)
-
-pub enum_known-e-in-Reject-judge_textures : goal.enum_known-e-in-Reject-judge_textures
-enum_known-e-in-Reject-judge_textures c = search (texs_laws, rules)
 
 pub enum_known-t : goal.enum_known-t
 enum_known-t c = search (texs_laws, rules)
 
-pub none-requires-in_default : goal.none-requires-in_default
-none-requires-in_default c = search (texs_laws, rules)
-
-pub returns-in-End : goal.returns-in-End
-returns-in-End c = search (texs_laws, rules)
-
-pub returns-in-Reject : goal.returns-in-Reject
-returns-in-Reject c = search (texs_laws, rules)
-
-pub returns-in-Reject-judge_textures : goal.returns-in-Reject-judge_textures
-returns-in-Reject-judge_textures c = search (texs_laws, rules)
-
-pub returns-in-Accept : goal.returns-in-Accept
-returns-in-Accept c = search (texs_laws, rules)
-
 pub returns-in_default : goal.returns-in_default
-returns-in_default c = let o = texs_rest c.in-Chunk.tag c.in_default.not-TEXS in search (texs_laws, rules)
+returns-in_default c = let h = c.in_ok-tag.was in let w = rw c.in_default.is at h in search (texs_laws, rules)
+
+pub returns-in_err-tag : goal.returns-in_err-tag
+returns-in_err-tag c = let h = c.in_err-tag.was in let p = err_from_is_err_and c.from_residual.result c.from_residual.ensures.1 in rw (p.1, p.2) (search (texs_laws, rules))
+
+pub returns-in_err-t-in-TEXS : goal.returns-in_err-t-in-TEXS
+returns-in_err-t-in-TEXS c = let h₁ = c.in_ok-tag.was in let h₂ = c.in_err-t-in-TEXS.was in let w = rw c.in-Some.is at h₁ in let p = err_from_is_err_and c.from_residual-in_err-t-in-TEXS.result c.from_residual-in_err-t-in-TEXS.ensures.1 in rw (p.1, p.2) (search (texs_laws, rules))
+
+pub returns-in_ok-t-in-TEXS : goal.returns-in_ok-t-in-TEXS
+returns-in_ok-t-in-TEXS c = let h₁ = c.in_ok-tag.was in let h₂ = c.in_ok-t-in-TEXS.was in let w = rw c.in-Some.is at h₁ in search (texs_laws, rules)
+
+pub returns-in_default-tag : goal.returns-in_default-tag
+returns-in_default-tag c =
+    let h = c.in_ok-tag.was in
+    let w = rw c.in-Some.is at h in
+    let o = texs_rest c.in-Some.field-0.tag c.in_default-tag.not-TEXS in
+    search (texs_laws, rules)

@@ -1,4 +1,5 @@
 -- `judge_brushes` answers `read_brushes`, its slots and its tally.
+use Rattle.std.proofs.lemmas.Result.{err_from_is_err_and}
 use borrow.Author.Rules.{rules}
 use Rattle.wire.proofs.AnswerLaws.{numbers}
 use Rattle.b3d_judge_materials.proofs.SlotLaws.{brus}
@@ -11,16 +12,16 @@ pub brush_items-requires : goal.brush_items-requires
 brush_items-requires c = search (numbers, rules)
 
 pub returns-then-count-eq0 : goal.returns-then-count-eq0
-returns-then-count-eq0 c = search (brus, rules)
+returns-then-count-eq0 c = let h = c.in_ok-count.was in search (brus, rules)
 
 pub brus-requires : goal.brus-requires
-brus-requires c = search (brus, rules)
+brus-requires c = let h = c.in_ok-count.was in search (brus, rules)
 
-pub returns-in-Cut : goal.returns-in-Cut
-returns-in-Cut c = search (brus, rules)
+pub returns-in_default : goal.returns-in_default
+returns-in_default c = search (brus, rules)
 
-pub returns-in-Reject : goal.returns-in-Reject
-returns-in-Reject c = search (brus, rules)
+pub returns-in_err-count : goal.returns-in_err-count
+returns-in_err-count c = let h = c.in_err-count.was in let p = err_from_is_err_and c.from_residual.result c.from_residual.ensures.1 in rw (p.1, p.2) (search (brus, rules))
 
-pub returns-else-count-eq0 : goal.returns-else-count-eq0
-returns-else-count-eq0 c = search (brus, rules)
+pub returns : goal.returns
+returns c = let h = c.in_ok-count.was in search (brus, rules)

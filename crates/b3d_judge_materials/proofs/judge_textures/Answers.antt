@@ -8,9 +8,6 @@ use Rattle.b3d_judge_materials.proofs.judge_textures.Goals as goal
 pub loop-c-init : goal.loop-c-init
 loop-c-init c = search (textures, rules)
 
-pub returns-in-Cut : goal.returns-in-Cut
-returns-in-Cut c = search (textures, rules)
-
 pub loop-c-smaller : goal.loop-c-smaller
 loop-c-smaller c = search (named-rows, rules)
 
@@ -19,3 +16,6 @@ loop-c-preserved c = search (textures, rules)
 
 pub returns : goal.returns
 returns c = search (textures, rules)
+
+pub returns-in_default : goal.returns-in_default
+returns-in_default c = search (textures, rules)

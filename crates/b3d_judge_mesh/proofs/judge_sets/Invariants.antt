@@ -3,8 +3,8 @@ use Prim.Native.Nat.{◌-◌}
 use Rattle.b3d_judge_mesh.proofs.SetLaws.{Setting}
 use Rattle.b3d_judge_mesh.proofs.judge_sets.Given as goal
 
-abbrev pub invariant-loop-e : goal.invariant-loop-e
-invariant-loop-e l = Setting l.s l.at l.brushes l.vertices l.initial.c l.c l.q l.m
+abbrev pub invariant-loop-p : goal.invariant-loop-p
+invariant-loop-p l = Setting l.s l.at l.brushes l.vertices l.initial.c l.c l.q l.m
 
-abbrev pub decreases-loop-e : goal.decreases-loop-e
-decreases-loop-e l = l.c.end - l.c.at
+abbrev pub decreases-loop-p : goal.decreases-loop-p
+decreases-loop-p l = l.c.end - l.c.at

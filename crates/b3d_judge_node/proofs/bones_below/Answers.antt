@@ -11,9 +11,3 @@ enum_known-a c = search (below_laws, rules)
 
 pub returns-then-anim : goal.returns-then-anim
 returns-then-anim c = search (below_laws, rules)
-
-pub returns-in-Root : goal.returns-in-Root
-returns-in-Root c = search (below_laws, rules)
-
-pub returns-else-anim : goal.returns-else-anim
-returns-else-anim c = search (below_laws, rules)

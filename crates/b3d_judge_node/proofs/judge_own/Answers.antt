@@ -6,17 +6,11 @@ use Rattle.b3d_judge_node.proofs.judge_own.Goals as goal
 pub named_row-requires : goal.named_row-requires
 named_row-requires c = search (own_laws, rules)
 
-pub enum_told-1 : goal.enum_told-1
-enum_told-1 c = search (own_laws, rules)
-
-pub enum_known-next : goal.enum_known-next
-enum_known-next c = search (own_laws, rules)
-
 pub judge_parts-requires : goal.judge_parts-requires
 judge_parts-requires c = search (own_laws, rules)
 
-pub returns-in-Cut : goal.returns-in-Cut
-returns-in-Cut c = search (own_laws, rules)
+pub returns-in_default : goal.returns-in_default
+returns-in_default c = search (own_laws, rules)
 
-pub returns-in-Is : goal.returns-in-Is
-returns-in-Is c = search (own_laws, rules)
+pub returns : goal.returns
+returns c = search (own_laws, rules)

@@ -1,4 +1,5 @@
 -- `judge_parts` judges the chunks inside a node up to the nodes below it.
+use Rattle.std.proofs.lemmas.Result.{err_from_is_err_and}
 use Rattle.b3d_judge_node.proofs.OwnLaws.{parts_laws, parts-good}
 use borrow.Author.Rules.{rules}
 use Rattle.b3d_judge_node.proofs.judge_parts.Goals as goal
@@ -9,17 +10,11 @@ bone_vertices-requires c = search (parts_laws, rules)
 pub judge_kind-requires : goal.judge_kind-requires
 judge_kind-requires c = search (parts_laws, rules)
 
-pub enum_known-e : goal.enum_known-e
-enum_known-e c = search (parts_laws, rules)
-
 pub enum_known-own : goal.enum_known-own
 enum_known-own c = search (parts_laws, rules)
 
 pub judge_animation-requires : goal.judge_animation-requires
 judge_animation-requires c = search (parts_laws, rules)
-
-pub enum_known-e-in-Reject-judge_animation : goal.enum_known-e-in-Reject-judge_animation
-enum_known-e-in-Reject-judge_animation c = search (parts_laws, rules)
 
 pub enum_known-anim : goal.enum_known-anim
 enum_known-anim c = search (parts_laws, rules)
@@ -28,17 +23,13 @@ pub bones_below-requires : goal.bones_below-requires
 bones_below-requires c = search (parts_laws, rules)
 
 pub own_rows-requires : goal.own_rows-requires
-own_rows-requires c = search (parts_laws, rules)
+own_rows-requires c = let h₁ = c.in_ok-own.was in let h₂ = c.in_ok-anim.was in search (parts_laws, rules)
 
-pub returns-in-Reject : goal.returns-in-Reject
-returns-in-Reject c = search (parts_laws, rules)
+pub returns-in_err-own : goal.returns-in_err-own
+returns-in_err-own c = let h = c.in_err-own.was in let p = err_from_is_err_and c.from_residual.result c.from_residual.ensures.1 in rw (p.1, p.2) (search (parts_laws, rules))
 
-pub returns-in-Reject-judge_animation : goal.returns-in-Reject-judge_animation
-returns-in-Reject-judge_animation c = search (parts_laws, rules)
+pub returns-in_err-anim : goal.returns-in_err-anim
+returns-in_err-anim c = let h₁ = c.in_ok-own.was in let h₂ = c.in_err-anim.was in let p = err_from_is_err_and c.from_residual-in_err-anim.result c.from_residual-in_err-anim.ensures.1 in rw (p.1, p.2) (search (parts_laws, rules))
 
-pub returns-in-Accept-judge_animation : goal.returns-in-Accept-judge_animation
-returns-in-Accept-judge_animation c = let own = c.in-Accept.is in
-    let judged = c.judge_kind.ensures in
-    let bones = c.bone_vertices.ensures in
-    let pre = c.requires in
-    search (parts-good, rules)
+pub returns : goal.returns
+returns c = let h₁ = c.in_ok-own.was in let h₂ = c.in_ok-anim.was in search (parts_laws, rules)

@@ -6,12 +6,12 @@ use Rattle.b3d_judge_nodes.proofs.NodeLaws.{Noding}
 use Rattle.b3d_judge_nodes.proofs.+judge_node_judge_nodes.Given as goal
 
 -- judge_nodes
-abbrev pub invariant-judge_nodes-loop-e : goal.invariant-judge_nodes-loop-e
-invariant-judge_nodes-loop-e l = Noding l.s l.at (read_node l.mode l.levels l.brushes (above_of l.above)) l.initial.c l.c l.q l.m
+abbrev pub invariant-judge_nodes-loop-p : goal.invariant-judge_nodes-loop-p
+invariant-judge_nodes-loop-p l = Noding l.s l.at (read_node l.mode l.levels l.brushes (above_of l.above)) l.initial.c l.c l.q l.m
 
 -- judge_nodes
-abbrev pub decreases-judge_nodes-loop-e : goal.decreases-judge_nodes-loop-e
-decreases-judge_nodes-loop-e l = l.c.end - l.c.at
+abbrev pub decreases-judge_nodes-loop-p : goal.decreases-judge_nodes-loop-p
+decreases-judge_nodes-loop-p l = l.c.end - l.c.at
 
 abbrev pub decreases-judge_node : goal.decreases-judge_node
 decreases-judge_node l = 2 * l.levels

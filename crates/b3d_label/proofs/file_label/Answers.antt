@@ -9,11 +9,11 @@ seek-requires c = search (file_laws, rules)
 pub root_label-requires : goal.root_label-requires
 root_label-requires c = search (file_laws, rules)
 
-pub returns-in-Cut : goal.returns-in-Cut
-returns-in-Cut c = search (file_laws, rules)
+pub returns-in_default : goal.returns-in_default
+returns-in_default c = search (file_laws, rules)
 
-pub returns-in-Nothing : goal.returns-in-Nothing
-returns-in-Nothing c = search (file_laws, rules)
+pub returns-in_default-seek : goal.returns-in_default-seek
+returns-in_default-seek c = search (file_laws, rules)
 
-pub returns-in-Found : goal.returns-in-Found
-returns-in-Found c = search (file_laws, rules)
+pub returns : goal.returns
+returns c = search (file_laws, rules)

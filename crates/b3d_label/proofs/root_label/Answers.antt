@@ -6,11 +6,11 @@ use Rattle.b3d_label.proofs.root_label.Goals as goal
 pub root_vertices-requires : goal.root_vertices-requires
 root_vertices-requires c = search (root-label_laws, rules)
 
-pub returns-in-Cut : goal.returns-in-Cut
-returns-in-Cut c = search (root-label_laws, rules)
+pub returns-in_default : goal.returns-in_default
+returns-in_default c = search (root-label_laws, rules)
 
-pub returns-in-Reject : goal.returns-in-Reject
-returns-in-Reject c = search (root-label_laws, rules)
+pub returns-in_default-root_vertices : goal.returns-in_default-root_vertices
+returns-in_default-root_vertices c = search (root-label_laws, rules)
 
-pub returns-in-Accept : goal.returns-in-Accept
-returns-in-Accept c = search (root-label_laws, rules)
+pub returns : goal.returns
+returns c = search (root-label_laws, rules)

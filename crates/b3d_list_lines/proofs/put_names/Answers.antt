@@ -1,5 +1,4 @@
 -- `put_names` puts one line a turn: those of the rows from i on are left.
-use Prim.Native.Nat.{◌-◌}
 use borrow.Author.Rules.{rules}
 use Rattle.b3d_list_lines.proofs.LineLaws.{names_laws}
 use Rattle.b3d_list_lines.proofs.put_names.Goals as goal

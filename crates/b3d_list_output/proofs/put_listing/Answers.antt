@@ -9,8 +9,8 @@ returns-then-file-gt-MOST_LISTED c = search (listing_laws, rules)
 pub put_nodes-requires : goal.put_nodes-requires
 put_nodes-requires c = search (listing_laws, rules)
 
-pub returns-in-Reject : goal.returns-in-Reject
-returns-in-Reject c = search (listing_laws, rules)
+pub returns-in-Err : goal.returns-in-Err
+returns-in-Err c = search (listing_laws, rules)
 
-pub returns-in-Accept : goal.returns-in-Accept
-returns-in-Accept c = search (listing_laws, rules)
+pub returns-in-Ok : goal.returns-in-Ok
+returns-in-Ok c = search (listing_laws, rules)

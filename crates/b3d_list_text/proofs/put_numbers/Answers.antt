@@ -1,5 +1,4 @@
 -- `put_numbers` puts a number and what follows it a turn: those from i on are left.
-use Prim.Native.Nat.{◌-◌}
 use Rattle.b3d_list_text.proofs.TextLaws.{numbers_laws}
 use borrow.Author.Rules.{rules}
 use Rattle.b3d_list_text.proofs.put_numbers.Goals as goal

@@ -9,8 +9,11 @@ cell-requires c = search (mend_laws, rules)
 pub put_both-requires : goal.put_both-requires
 put_both-requires c = search (mend_laws, rules)
 
-pub returns-in-Reject : goal.returns-in-Reject
-returns-in-Reject c = search (mend_laws, rules)
+pub returns-in-Err-clause-value : goal.returns-in-Err-clause-value
+returns-in-Err-clause-value c = search (mend_laws, rules)
 
-pub returns-in-Accept : goal.returns-in-Accept
-returns-in-Accept c = search (mend_laws, rules)
+pub returns-in-Err-clause-out_after : goal.returns-in-Err-clause-out_after
+returns-in-Err-clause-out_after c = search (mend_laws, rules)
+
+pub returns-in-Err-clause-report_after : goal.returns-in-Err-clause-report_after
+returns-in-Err-clause-report_after c = search (mend_laws, rules)

@@ -1,4 +1,5 @@
 -- `judge_mended` answers what the mending read says of a file.
+use Rattle.std.proofs.lemmas.Result.{err_from_is_err_and}
 use Rattle.b3d_mend_judge.proofs.JudgeLaws.{mended_laws}
 use borrow.Author.Rules.{rules}
 use Rattle.b3d_mend_judge.proofs.judge_mended.Goals as goal
@@ -21,9 +22,6 @@ are_bytes-requires c = search (mended_laws, rules)
 pub lax_body-requires : goal.lax_body-requires
 lax_body-requires c = search (mended_laws, rules)
 
-pub enum_known-e : goal.enum_known-e
-enum_known-e c = search (mended_laws, rules)
-
 pub enum_known-x : goal.enum_known-x
 enum_known-x c = search (mended_laws, rules)
 
@@ -33,8 +31,8 @@ over_limit-over-requires c = search (mended_laws, rules)
 pub returns-then-over-ne0 : goal.returns-then-over-ne0
 returns-then-over-ne0 c = search (mended_laws, rules)
 
-pub returns-in-Reject : goal.returns-in-Reject
-returns-in-Reject c = search (mended_laws, rules)
+pub returns-in_err-x-clause-value : goal.returns-in_err-x-clause-value
+returns-in_err-x-clause-value c = let h = c.in_err-x.was in let p = err_from_is_err_and c.from_residual.result c.from_residual.ensures.1 in rw (p.1, p.2) (search (mended_laws, rules))
 
-pub returns-else-over-ne0 : goal.returns-else-over-ne0
-returns-else-over-ne0 c = search (mended_laws, rules)
+pub returns-clause-value : goal.returns-clause-value
+returns-clause-value c = let h = c.in_ok-x.was in search (mended_laws, rules)

@@ -6,12 +6,6 @@ use Rattle.b3d_mend_judge.proofs.lax_body.Goals as goal
 pub number-requires : goal.number-requires
 number-requires c = search (body_laws, rules)
 
-pub enum_told-1 : goal.enum_told-1
-enum_told-1 c = search (body_laws, rules)
-
-pub enum_known-version : goal.enum_known-version
-enum_known-version c = search (body_laws, rules)
-
 pub returns-then-version-gt-HIGHEST_VERSION : goal.returns-then-version-gt-HIGHEST_VERSION
 returns-then-version-gt-HIGHEST_VERSION c = search (body_laws, rules)
 
@@ -21,8 +15,8 @@ trimmed-d-requires c = search (body_laws, rules)
 pub lax_chunks-requires : goal.lax_chunks-requires
 lax_chunks-requires c = search (body_laws, rules)
 
-pub returns-in-Cut : goal.returns-in-Cut
-returns-in-Cut c = search (body_laws, rules)
+pub returns-in_default : goal.returns-in_default
+returns-in_default c = search (body_laws, rules)
 
-pub returns-else-version-gt-HIGHEST_VERSION : goal.returns-else-version-gt-HIGHEST_VERSION
-returns-else-version-gt-HIGHEST_VERSION c = search (body_laws, rules)
+pub returns : goal.returns
+returns c = search (body_laws, rules)

@@ -1,16 +1,10 @@
 -- `put_brus` puts or counts a BRUS.
-use Rattle.b3d_mend_write_brushes.proofs.BrusPutLaws.{brus_laws, brus_four, brus_inside, brus_small, brus_first, brus_second, brus_done, brus_cut, brus_over}
+use Rattle.b3d_mend_write_brushes.proofs.BrusPutLaws.{brus_laws, brus_four, brus_inside, brus_small, brus_first, brus_second, brus_over}
 use borrow.Author.Rules.{rules}
 use Rattle.b3d_mend_write_brushes.proofs.put_brus.Goals as goal
 
 pub number-requires : goal.number-requires
 number-requires c = search (brus_laws, rules)
-
-pub enum_told-1 : goal.enum_told-1
-enum_told-1 c = search (brus_laws, rules)
-
-pub enum_known-slots : goal.enum_known-slots
-enum_known-slots c = search (brus_laws, rules)
 
 pub returns-then-slots-gt-MOST_SLOTS : goal.returns-then-slots-gt-MOST_SLOTS
 returns-then-slots-gt-MOST_SLOTS c = search (brus_over, rules)
@@ -24,11 +18,11 @@ put_kept-next-requires c = record { count_in_bounds = search (brus_four, rules);
 pub put_brushes-requires : goal.put_brushes-requires
 put_brushes-requires c = record { inside = search (brus_inside, rules); file_len_bound = search (brus_small, rules); room_from = search (brus_second, rules) }
 
-pub returns-in-Cut : goal.returns-in-Cut
-returns-in-Cut c = search (brus_done, brus_cut, rules)
-
 pub shape_of-out : goal.shape_of-out
 shape_of-out c = search (brus_laws, rules)
 
-pub returns-else-slots-gt-MOST_SLOTS : goal.returns-else-slots-gt-MOST_SLOTS
-returns-else-slots-gt-MOST_SLOTS c = search (brus_done, brus_cut, rules)
+pub returns-in_default : goal.returns-in_default
+returns-in_default c = search (brus_laws, rules)
+
+pub returns : goal.returns
+returns c = search (brus_laws, rules)

@@ -1,5 +1,4 @@
 -- `put_brushes` puts or counts brushes to the end. The loop has put those before a cursor; its measure is what is left.
-use Prim.Native.Nat.{◌-◌}
 use Rattle.b3d_mend_write_brushes.proofs.ListPutLaws.{brushes_laws, brush_at, brush-fits, brush_less, brushes_next}
 use borrow.Author.Rules.{rules}
 use Rattle.b3d_mend_write_brushes.proofs.put_brushes.Goals as goal
@@ -12,18 +11,6 @@ overflow_add-slots c = search (brushes_laws, rules)
 
 pub named_row-requires : goal.named_row-requires
 named_row-requires c = search (brushes_laws, rules)
-
-pub enum_told-1 : goal.enum_told-1
-enum_told-1 c = search (brushes_laws, rules)
-
-pub shape_of-out-in-Cut : goal.shape_of-out-in-Cut
-shape_of-out-in-Cut c = search (brushes_laws, rules)
-
-pub returns-in-Cut : goal.returns-in-Cut
-returns-in-Cut c = search (brushes_laws, rules)
-
-pub enum_known-row : goal.enum_known-row
-enum_known-row c = search (brushes_laws, rules)
 
 pub put_brush-at-requires : goal.put_brush-at-requires
 put_brush-at-requires c = record { brush_at = search (brush_at, rules); file_len_bound = search rules; room_from = search (brush-fits, rules) }
@@ -39,3 +26,6 @@ shape_of-out c = search (brushes_laws, rules)
 
 pub returns : goal.returns
 returns c = search (brushes_laws, rules)
+
+pub returns-in_default : goal.returns-in_default
+returns-in_default c = search (brushes_laws, rules)

@@ -1,5 +1,4 @@
--- `put_ids` puts or counts ids. The loop has put those before the i-th; its measure is how many are left.
-use Prim.Native.Nat.{◌-◌}
+-- `put_ids` puts or counts ids. The loop has put those before the i-th.
 use borrow.Author.Rules.{rules}
 use Rattle.b3d_mend_write_brushes.proofs.IdPutLaws.{ids_laws}
 use Rattle.b3d_mend_write_brushes.proofs.put_ids.Goals as goal
@@ -15,9 +14,6 @@ overflow_add-from c = search (ids_laws, rules)
 
 pub put_id-at-requires : goal.put_id-at-requires
 put_id-at-requires c = search (ids_laws, rules)
-
-pub overflow_add-i : goal.overflow_add-i
-overflow_add-i c = search (ids_laws, rules)
 
 pub loop-i-smaller : goal.loop-i-smaller
 loop-i-smaller c = search (ids_laws, rules)

@@ -127,16 +127,16 @@ pub walk_inside-put_kept-at-requires : goal.walk_inside-put_kept-at-requires
 walk_inside-put_kept-at-requires t c = search (whole_room, other_fits, rules)
 
 -- walk_inside
-pub walk_inside-loop-out-smaller-in-Other : goal.walk_inside-loop-out-smaller-in-Other
-walk_inside-loop-out-smaller-in-Other t c = search (whole_less, rules)
+pub walk_inside-loop-out-smaller-in-None : goal.walk_inside-loop-out-smaller-in-None
+walk_inside-loop-out-smaller-in-None t c = search (whole_less, rules)
 
 -- walk_inside
-pub walk_inside-loop-out-preserved-in-Other : goal.walk_inside-loop-out-preserved-in-Other
-walk_inside-loop-out-preserved-in-Other t c = search (other_next, rules)
+pub walk_inside-loop-out-preserved-in-None : goal.walk_inside-loop-out-preserved-in-None
+walk_inside-loop-out-preserved-in-None t c = search (other_next, rules)
 
 -- walk_inside
 pub walk_inside-walk_body-w-requires : goal.walk_inside-walk_body-w-requires
-walk_inside-walk_body-w-requires t c = let body = known_body _ _ _ _ _ _ _ _ _ _ _ _ c.loop-out.invariant _ c.header.ensures _ _ _ c.in-Whole.is _ c.tag_of.ensures _ c.in-Known.is _ c.body_at-m.ensures in
+walk_inside-walk_body-w-requires t c = let body = known_body _ _ _ _ _ _ _ _ _ _ _ _ c.loop-out.invariant _ c.header.ensures _ _ _ c.in-Whole.is _ c.tag_of.ensures _ c.in-Some.is _ c.body_at-m.ensures in
     (omega (arith, c.decreases), ((whole_body _ _ _ _ _ _ _ _ _ _ _ _ c.loop-out.invariant _ c.header.ensures _ _ _ c.in-Whole.is c.requires.inside.1, c.requires.inside.2), body))
 
 -- walk_inside
@@ -145,7 +145,7 @@ walk_inside-overflow_sub-size t c = search (walked-order, rules)
 
 -- walk_inside
 pub walk_inside-put_head-requires : goal.walk_inside-put_head-requires
-walk_inside-put_head-requires t c = known_head _ _ _ _ _ _ _ _ _ _ _ _ c.loop-out.invariant _ c.header.ensures _ _ _ c.in-Whole.is _ c.tag_of.ensures _ c.in-Known.is _ c.body_at-m.ensures _ _ c.walk_body-w.ensures
+walk_inside-put_head-requires t c = known_head _ _ _ _ _ _ _ _ _ _ _ _ c.loop-out.invariant _ c.header.ensures _ _ _ c.in-Whole.is _ c.tag_of.ensures _ c.in-Some.is _ c.body_at-m.ensures _ _ c.walk_body-w.ensures
 
 -- walk_inside
 pub walk_inside-loop-out-smaller : goal.walk_inside-loop-out-smaller
@@ -153,4 +153,4 @@ walk_inside-loop-out-smaller t c = whole_less _ _ _ _ _ _ _ _ _ _ _ _ c.loop-out
 
 -- walk_inside
 pub walk_inside-loop-out-preserved : goal.walk_inside-loop-out-preserved
-walk_inside-loop-out-preserved t c = known_next _ _ _ _ _ _ _ _ _ _ _ _ c.loop-out.invariant _ c.header.ensures _ _ _ c.in-Whole.is _ c.tag_of.ensures _ c.in-Known.is _ c.body_at-m.ensures _ _ c.walk_body-w.ensures _ c.put_head.ensures _ c.next_scope-k.ensures
+walk_inside-loop-out-preserved t c = known_next _ _ _ _ _ _ _ _ _ _ _ _ c.loop-out.invariant _ c.header.ensures _ _ _ c.in-Whole.is _ c.tag_of.ensures _ c.in-Some.is _ c.body_at-m.ensures _ _ c.walk_body-w.ensures _ c.put_head.ensures _ c.next_scope-k.ensures

@@ -12,8 +12,8 @@ enum_told-1 c = search (count_laws, rules)
 pub enum_known-t : goal.enum_known-t
 enum_known-t c = search (count_laws, rules)
 
-pub returns-in-Reject : goal.returns-in-Reject
-returns-in-Reject c = search (count_laws, rules)
+pub returns-in-Err : goal.returns-in-Err
+returns-in-Err c = search (count_laws, rules)
 
-pub returns-in-Accept : goal.returns-in-Accept
-returns-in-Accept c = search (count_laws, rules)
+pub returns-in-Ok : goal.returns-in-Ok
+returns-in-Ok c = search (count_laws, rules)

@@ -1,4 +1,5 @@
 -- `closing_of` comes to what the definition's close does.
+use Rattle.std.proofs.lemmas.Result.{err_from_is_err_and}
 use Rattle.b3d_pieces_answers.proofs.ClosingLaws.{close_laws}
 use borrow.Author.Rules.{rules}
 use Rattle.b3d_pieces_answers.proofs.closing_of.Goals as goal
@@ -16,10 +17,10 @@ pub returns-then-j-size : goal.returns-then-j-size
 returns-then-j-size c = search (close_laws, rules)
 
 pub returns-then-k-eq0 : goal.returns-then-k-eq0
-returns-then-k-eq0 c = search (close_laws, rules)
+returns-then-k-eq0 c = let h = c.in_ok-g.was in search (close_laws, rules)
 
-pub returns-in-Reject : goal.returns-in-Reject
-returns-in-Reject c = search (close_laws, rules)
+pub returns-in_err-g : goal.returns-in_err-g
+returns-in_err-g c = let h = c.in_err-g.was in let p = err_from_is_err_and c.from_residual.result c.from_residual.ensures.1 in rw (p.1, p.2) (search (close_laws, rules))
 
-pub returns-else-k-eq0 : goal.returns-else-k-eq0
-returns-else-k-eq0 c = search (close_laws, rules)
+pub returns : goal.returns
+returns c = let h = c.in_ok-g.was in search (close_laws, rules)

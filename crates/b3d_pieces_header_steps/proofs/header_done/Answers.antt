@@ -6,8 +6,8 @@ use Rattle.b3d_pieces_header_steps.proofs.header_done.Goals as goal
 pub returns-then-left-n : goal.returns-then-left-n
 returns-then-left-n c = search (header_laws, rules)
 
-pub returns-in-Other : goal.returns-in-Other
-returns-in-Other c = search (header_laws, rules)
+pub returns-in_default : goal.returns-in_default
+returns-in_default c = search (header_laws, rules)
 
-pub returns-in-Known : goal.returns-in-Known
-returns-in-Known c = search (header_laws, rules)
+pub returns : goal.returns
+returns c = search (header_laws, rules)

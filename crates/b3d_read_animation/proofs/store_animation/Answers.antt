@@ -9,14 +9,11 @@ use Rattle.b3d_read_animation.proofs.store_animation.Goals as goal
 pub returns-then-file-lt12 : goal.returns-then-file-lt12
 returns-then-file-lt12 c = (search (table_small bones, rules), search (table_small lists, rules), search (table_small keys, rules))
 
-pub loop-tag-init : goal.loop-tag-init
-loop-tag-init c = (search (table_start bones, any-counts, rules), search (lists_laws, rules), search (table_start keys, any-counts, rules))
+pub loop-chunk-init : goal.loop-chunk-init
+loop-chunk-init c = (search (table_start bones, any-counts, rules), search (lists_laws, rules), search (table_start keys, any-counts, rules))
 
 pub flat_next-requires : goal.flat_next-requires
 flat_next-requires c = search (table_inside lists, rules)
-
-pub enum_known-tag : goal.enum_known-tag
-enum_known-tag c = search (lists_laws, rules)
 
 pub enum_told-1 : goal.enum_told-1
 enum_told-1 c = search (lists_laws, rules)
@@ -63,26 +60,26 @@ same-requires-else-same-2 c = search (lists_laws, rules)
 pub store_items-to8-requires : goal.store_items-to8-requires
 store_items-to8-requires c = search (table_body bones, table_room bones, rules)
 
-pub loop-tag-smaller-then-same : goal.loop-tag-smaller-then-same
-loop-tag-smaller-then-same c = search (table_less lists, rules)
+pub loop-chunk-smaller-then-same : goal.loop-chunk-smaller-then-same
+loop-chunk-smaller-then-same c = search (table_less lists, rules)
 
-pub loop-tag-preserved-then-same : goal.loop-tag-preserved-then-same
-loop-tag-preserved-then-same c = (search (bones_keys, rules), search (lists_laws, rules), search (plain_own keys, rules))
+pub loop-chunk-preserved-then-same : goal.loop-chunk-preserved-then-same
+loop-chunk-preserved-then-same c = (search (bones_keys, rules), search (lists_laws, rules), search (plain_own keys, rules))
 
-pub loop-tag-smaller-then-same-2 : goal.loop-tag-smaller-then-same-2
-loop-tag-smaller-then-same-2 c = search (table_less lists, rules)
+pub loop-chunk-smaller-then-same-2 : goal.loop-chunk-smaller-then-same-2
+loop-chunk-smaller-then-same-2 c = search (table_less lists, rules)
 
-pub loop-tag-preserved-then-same-2 : goal.loop-tag-preserved-then-same-2
-loop-tag-preserved-then-same-2 c = (search (bones_node, rules), search (lists_laws, rules), search (plain_other keys, rules))
+pub loop-chunk-preserved-then-same-2 : goal.loop-chunk-preserved-then-same-2
+loop-chunk-preserved-then-same-2 c = (search (bones_node, rules), search (lists_laws, rules), search (plain_other keys, rules))
 
-pub loop-tag-smaller-then-same-3 : goal.loop-tag-smaller-then-same-3
-loop-tag-smaller-then-same-3 c = search (table_less lists, rules)
+pub loop-chunk-smaller-then-same-3 : goal.loop-chunk-smaller-then-same-3
+loop-chunk-smaller-then-same-3 c = search (table_less lists, rules)
 
-pub loop-tag-preserved-then-same-3 : goal.loop-tag-preserved-then-same-3
-loop-tag-preserved-then-same-3 c = (search (plain_own bones, rules), search (lists_laws, rules), search (plain_other keys, rules))
+pub loop-chunk-preserved-then-same-3 : goal.loop-chunk-preserved-then-same-3
+loop-chunk-preserved-then-same-3 c = (search (plain_own bones, rules), search (lists_laws, rules), search (plain_other keys, rules))
 
-pub loop-tag-smaller : goal.loop-tag-smaller
-loop-tag-smaller c = search (table_less lists, rules)
+pub loop-chunk-smaller : goal.loop-chunk-smaller
+loop-chunk-smaller c = search (table_less lists, rules)
 
-pub loop-tag-preserved : goal.loop-tag-preserved
-loop-tag-preserved c = (search (plain_other bones, rules), search (lists_laws, rules), search (plain_other keys, rules))
+pub loop-chunk-preserved : goal.loop-chunk-preserved
+loop-chunk-preserved c = (search (plain_other bones, rules), search (lists_laws, rules), search (plain_other keys, rules))

@@ -6,8 +6,8 @@ use Rattle.b3d_read_animation.proofs.TableLaws.{lists, keys}
 use Rattle.b3d_read_animation.proofs.KeyListLaws.{AnimationLeft}
 use Rattle.b3d_read_animation.proofs.store_animation.Given as goal
 
-abbrev pub invariant-loop-tag : goal.invariant-loop-tag
-invariant-loop-tag l = TableLeft 8 Any l.file l.initial.weights l.weights l.at l.to8 × TableLeft 9 (AnimationLeft l.at l.to9 l.nodes l.count) l.file l.initial.lists l.lists l.at l.to9 × TableLeft 10 Any l.file l.initial.keys l.keys l.at l.to10
+abbrev pub invariant-loop-chunk : goal.invariant-loop-chunk
+invariant-loop-chunk l = TableLeft 8 Any l.file l.initial.weights l.weights l.at l.to8 × TableLeft 9 (AnimationLeft l.at l.to9 l.nodes l.count) l.file l.initial.lists l.lists l.at l.to9 × TableLeft 10 Any l.file l.initial.keys l.keys l.at l.to10
 
-abbrev pub decreases-loop-tag : goal.decreases-loop-tag
-decreases-loop-tag l = length l.file - l.at
+abbrev pub decreases-loop-chunk : goal.decreases-loop-chunk
+decreases-loop-chunk l = length l.file - l.at

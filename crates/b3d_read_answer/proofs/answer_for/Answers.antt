@@ -18,8 +18,8 @@ enum_known-x c = search (answer_laws, rules)
 pub with_room-requires : goal.with_room-requires
 with_room-requires c = search (answer_laws, rules)
 
-pub returns-in-Reject : goal.returns-in-Reject
-returns-in-Reject c = search (answer_laws, rules)
+pub returns-in-Err : goal.returns-in-Err
+returns-in-Err c = search (answer_laws, rules)
 
-pub returns-in-Accept : goal.returns-in-Accept
-returns-in-Accept c = search (answer_laws, rules)
+pub returns-in-Ok : goal.returns-in-Ok
+returns-in-Ok c = search (answer_laws, rules)

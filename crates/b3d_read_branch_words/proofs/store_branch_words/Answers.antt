@@ -1,13 +1,10 @@
--- `store_branch_words` goes from the last row to the first. Its measure is how many rows are left.
+-- `store_branch_words` goes from the last row to the first: those from `node` on have their words.
 use Rattle.b3d_read_branch_words.proofs.BranchLaws.{pass_laws}
 use borrow.Author.Rules.{rules}
 use Rattle.b3d_read_branch_words.proofs.store_branch_words.Goals as goal
 
-pub loop-i-init : goal.loop-i-init
-loop-i-init c = search (pass_laws, rules)
-
-pub overflow_sub-node : goal.overflow_sub-node
-overflow_sub-node c = search (pass_laws, rules)
+pub loop-node-init : goal.loop-node-init
+loop-node-init c = search (pass_laws, rules)
 
 pub below-requires : goal.below-requires
 below-requires c = search (pass_laws, rules)
@@ -27,11 +24,8 @@ offset_bounds-out-o c = search (pass_laws, rules)
 pub bounds-out-o : goal.bounds-out-o
 bounds-out-o c = search (pass_laws, rules)
 
-pub loop-i-smaller : goal.loop-i-smaller
-loop-i-smaller c = search (pass_laws, rules)
-
-pub loop-i-preserved : goal.loop-i-preserved
-loop-i-preserved c = search (pass_laws, rules)
+pub loop-node-preserved : goal.loop-node-preserved
+loop-node-preserved c = search (pass_laws, rules)
 
 pub shape_of-out : goal.shape_of-out
 shape_of-out c = search (pass_laws, rules)

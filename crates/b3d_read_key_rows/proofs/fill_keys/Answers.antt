@@ -1,30 +1,18 @@
--- `fill_keys` stores rows by the mask of a key, in runs. The loop has stored those before the last `left`.
+-- `fill_keys` stores rows by the mask of a key, in runs. The loop has stored the first i.
 use native.Mathlib.Omega.{arith}
 use Rattle.b3d_read_row_runs.proofs.RunLaws.{rows_none, rows_done, rows_take, rows_room, rows_on, rows_laws}
 use Rattle.b3d_read_key_rows.proofs.KeyLaws.{keys-words, keys-wide, keys_laws}
 use borrow.Author.Rules.{rules}
 use Rattle.b3d_read_key_rows.proofs.fill_keys.Goals as goal
 
-pub loop-left-init : goal.loop-left-init
-loop-left-init c = search (rows_none, keys_laws, rules)
+pub loop-i-init : goal.loop-i-init
+loop-i-init c = search (rows_none, keys_laws, rules)
 
 pub store_key-requires : goal.store_key-requires
 store_key-requires c = (omega arith, omega arith, omega arith, search (rows_take, keys-words), search (rows_room, rules))
 
-pub overflow_add-at : goal.overflow_add-at
-overflow_add-at c = search (rows_laws, rules)
-
-pub overflow_add-o : goal.overflow_add-o
-overflow_add-o c = search (rows_laws, rules)
-
-pub overflow_sub-left : goal.overflow_sub-left
-overflow_sub-left c = search (rows_laws, rules)
-
-pub loop-left-smaller : goal.loop-left-smaller
-loop-left-smaller c = search (rows_laws, rules)
-
-pub loop-left-preserved : goal.loop-left-preserved
-loop-left-preserved c = search (rows_on, keys-wide, rules)
+pub loop-i-preserved : goal.loop-i-preserved
+loop-i-preserved c = search (rows_on, keys-wide, rules)
 
 pub returns : goal.returns
 returns c = search (rows_done, keys_laws, rules)

@@ -6,12 +6,6 @@ use Rattle.b3d_read_materials.proofs.fill_brushes.Goals as goal
 pub first_chunk-requires : goal.first_chunk-requires
 first_chunk-requires c = search (brushes_laws, rules)
 
-pub enum_known-body : goal.enum_known-body
-enum_known-body c = search (brushes_laws, rules)
-
-pub enum_told-1 : goal.enum_told-1
-enum_told-1 c = search (brushes_laws, rules)
-
 pub returns-in_default : goal.returns-in_default
 returns-in_default c = search (brushes_laws, rules)
 

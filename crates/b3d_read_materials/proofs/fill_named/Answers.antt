@@ -11,18 +11,6 @@ loop-length-init c = search (texts_laws, row_inside, row_room, after_less, rules
 pub named_row-requires : goal.named_row-requires
 named_row-requires c = search (texts_laws, row_inside, row_room, after_less, rules)
 
-pub enum_told-1 : goal.enum_told-1
-enum_told-1 c = search (texts_laws, row_inside, row_room, after_less, rules)
-
-pub shape_of-out-in-Cut : goal.shape_of-out-in-Cut
-shape_of-out-in-Cut c = search (texts_laws, row_inside, row_room, after_less, rules)
-
-pub returns-in-Cut : goal.returns-in-Cut
-returns-in-Cut c = search (texts_laws, row_inside, row_room, after_less, rules)
-
-pub enum_known-length : goal.enum_known-length
-enum_known-length c = search (texts_laws, row_inside, row_room, after_less, rules)
-
 pub put_row-base-requires : goal.put_row-base-requires
 put_row-base-requires c = search (texts_laws, row_inside, row_room, after_less, rules)
 
@@ -31,3 +19,6 @@ loop-length-smaller c = search (texts_laws, row_inside, row_room, after_less, ru
 
 pub loop-length-preserved : goal.loop-length-preserved
 loop-length-preserved c = search (texts_laws, row_inside, row_room, after_less, rules)
+
+pub returns-in_default : goal.returns-in_default
+returns-in_default c = search (texts_laws, row_inside, row_room, after_less, rules)

@@ -10,12 +10,6 @@ loop-next-init c = search (count_laws, rules)
 pub seek-requires : goal.seek-requires
 seek-requires c = search (count_laws, rules)
 
-pub enum_known-next : goal.enum_known-next
-enum_known-next c = search (count_laws, rules)
-
-pub enum_told-1 : goal.enum_told-1
-enum_told-1 c = search (count_laws, rules)
-
 pub returns-in_default : goal.returns-in_default
 returns-in_default c = search (count_laws, rules)
 

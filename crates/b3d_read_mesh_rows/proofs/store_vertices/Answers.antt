@@ -9,20 +9,14 @@ first_word-head-requires c = search (mesh_laws, rules)
 pub seek-requires : goal.seek-requires
 seek-requires c = search (mesh_laws, rules)
 
-pub enum_told-1 : goal.enum_told-1
-enum_told-1 c = search (mesh_laws, rules)
-
-pub enum_known-b : goal.enum_known-b
-enum_known-b c = search (mesh_laws, rules)
-
 pub store_vertex_rows-requires : goal.store_vertex_rows-requires
 store_vertex_rows-requires c = search (mesh_laws, rules)
-
-pub returns-in-Nothing : goal.returns-in-Nothing
-returns-in-Nothing c = search (mesh_laws, rules)
 
 pub shape_of-out : goal.shape_of-out
 shape_of-out c = search (mesh_laws, rules)
 
-pub returns-in-Found : goal.returns-in-Found
-returns-in-Found c = search (mesh_laws, rules)
+pub returns-in_default : goal.returns-in_default
+returns-in_default c = search (mesh_laws, rules)
+
+pub returns : goal.returns
+returns c = search (mesh_laws, rules)

@@ -9,14 +9,11 @@ use Rattle.b3d_read_meshes.proofs.store_meshes.Goals as goal
 pub returns-then-file-lt12 : goal.returns-then-file-lt12
 returns-then-file-lt12 c = (search (table_small meshes, rules), search (table_small vertices, rules), search (table_small sets, rules), search (table_small triangles, rules))
 
-pub loop-tag-init : goal.loop-tag-init
-loop-tag-init c = search (meshes_laws, rules)
+pub loop-chunk-init : goal.loop-chunk-init
+loop-chunk-init c = search (meshes_laws, rules)
 
 pub flat_next-requires : goal.flat_next-requires
 flat_next-requires c = search (meshes_laws, rules)
-
-pub enum_known-tag : goal.enum_known-tag
-enum_known-tag c = search (meshes_laws, rules)
 
 pub enum_told-1 : goal.enum_told-1
 enum_told-1 c = search (meshes_laws, rules)
@@ -40,7 +37,7 @@ pub same-requires : goal.same-requires
 same-requires c = search (meshes_laws, rules)
 
 pub put_one-m-requires : goal.put_one-m-requires
-put_one-m-requires c = let pre = c.requires in let inv = c.loop-tag.invariant in record { body_at = (search meshes_body, pre.0, search meshes_fit); mesh_room = search meshes_room }
+put_one-m-requires c = let pre = c.requires in let inv = c.loop-chunk.invariant in record { body_at = (search meshes_body, pre.0, search meshes_fit); mesh_room = search meshes_room }
 
 pub same-requires-else-same : goal.same-requires-else-same
 same-requires-else-same c = search (meshes_laws, rules)
@@ -48,20 +45,20 @@ same-requires-else-same c = search (meshes_laws, rules)
 pub overflow_add-m : goal.overflow_add-m
 overflow_add-m c = search (meshes_laws, rules)
 
-pub loop-tag-smaller-then-same : goal.loop-tag-smaller-then-same
-loop-tag-smaller-then-same c = search (meshes_laws, rules)
+pub loop-chunk-smaller-then-same : goal.loop-chunk-smaller-then-same
+loop-chunk-smaller-then-same c = search (meshes_laws, rules)
 
-pub loop-tag-preserved-then-same : goal.loop-tag-preserved-then-same
-loop-tag-preserved-then-same c = search (meshes_laws, rules)
+pub loop-chunk-preserved-then-same : goal.loop-chunk-preserved-then-same
+loop-chunk-preserved-then-same c = search (meshes_laws, rules)
 
-pub loop-tag-smaller-then-same-2 : goal.loop-tag-smaller-then-same-2
-loop-tag-smaller-then-same-2 c = search (meshes_laws, rules)
+pub loop-chunk-smaller-then-same-2 : goal.loop-chunk-smaller-then-same-2
+loop-chunk-smaller-then-same-2 c = search (meshes_laws, rules)
 
-pub loop-tag-preserved-then-same-2 : goal.loop-tag-preserved-then-same-2
-loop-tag-preserved-then-same-2 c = search (meshes_laws, rules)
+pub loop-chunk-preserved-then-same-2 : goal.loop-chunk-preserved-then-same-2
+loop-chunk-preserved-then-same-2 c = search (meshes_laws, rules)
 
-pub loop-tag-smaller : goal.loop-tag-smaller
-loop-tag-smaller c = search (meshes_laws, rules)
+pub loop-chunk-smaller : goal.loop-chunk-smaller
+loop-chunk-smaller c = search (meshes_laws, rules)
 
-pub loop-tag-preserved : goal.loop-tag-preserved
-loop-tag-preserved c = search (meshes_laws, rules)
+pub loop-chunk-preserved : goal.loop-chunk-preserved
+loop-chunk-preserved c = search (meshes_laws, rules)

@@ -4,8 +4,8 @@ use lib.ListN.{length}
 use Rattle.b3d_read_meshes.proofs.MeshLaws.{MeshesLeft}
 use Rattle.b3d_read_meshes.proofs.store_meshes.Given as goal
 
-abbrev pub invariant-loop-tag : goal.invariant-loop-tag
-invariant-loop-tag l = MeshesLeft l.file l.initial.t4 l.initial.t5 l.initial.t6 l.initial.t7 l.t4 l.t5 l.t6 l.t7 l.at l.m
+abbrev pub invariant-loop-chunk : goal.invariant-loop-chunk
+invariant-loop-chunk l = MeshesLeft l.file l.initial.t4 l.initial.t5 l.initial.t6 l.initial.t7 l.t4 l.t5 l.t6 l.t7 l.at l.m
 
-abbrev pub decreases-loop-tag : goal.decreases-loop-tag
-decreases-loop-tag l = length l.file - l.at
+abbrev pub decreases-loop-chunk : goal.decreases-loop-chunk
+decreases-loop-chunk l = length l.file - l.at

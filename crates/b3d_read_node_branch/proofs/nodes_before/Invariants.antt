@@ -4,8 +4,8 @@ use lib.ListN.{length}
 use Rattle.b3d_read_node_branch.proofs.Laws.{BeforeLeft}
 use Rattle.b3d_read_node_branch.proofs.nodes_before.Given as goal
 
-abbrev pub invariant-loop-tag : goal.invariant-loop-tag
-invariant-loop-tag l = BeforeLeft l.file l.end l.initial.at l.at l.count
+abbrev pub invariant-loop-chunk : goal.invariant-loop-chunk
+invariant-loop-chunk l = BeforeLeft l.file l.end l.initial.at l.at l.count
 
-abbrev pub decreases-loop-tag : goal.decreases-loop-tag
-decreases-loop-tag l = length l.file - l.at
+abbrev pub decreases-loop-chunk : goal.decreases-loop-chunk
+decreases-loop-chunk l = length l.file - l.at

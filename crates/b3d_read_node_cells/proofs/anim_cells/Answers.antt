@@ -4,14 +4,11 @@ use Rattle.b3d_read_node_cells.proofs.OwnChunkLaws.{anim_laws}
 use borrow.Author.Rules.{rules}
 use Rattle.b3d_read_node_cells.proofs.anim_cells.Goals as goal
 
-pub loop-tag-init : goal.loop-tag-init
-loop-tag-init c = search (anim_laws, rules)
+pub loop-chunk-init : goal.loop-chunk-init
+loop-chunk-init c = search (anim_laws, rules)
 
 pub own_next-requires : goal.own_next-requires
 own_next-requires c = search (anim_laws, rules)
-
-pub enum_known-tag : goal.enum_known-tag
-enum_known-tag c = search (anim_laws, rules)
 
 pub enum_told-1 : goal.enum_told-1
 enum_told-1 c = search (anim_laws, rules)
@@ -28,8 +25,8 @@ three_words-v-requires c = search (anim_laws, rules)
 pub returns-then-same : goal.returns-then-same
 returns-then-same c = search (anim_laws, rules)
 
-pub loop-tag-smaller : goal.loop-tag-smaller
-loop-tag-smaller c = search (anim_laws, rules)
+pub loop-chunk-smaller : goal.loop-chunk-smaller
+loop-chunk-smaller c = search (anim_laws, rules)
 
-pub loop-tag-preserved : goal.loop-tag-preserved
-loop-tag-preserved c = search (anim_laws, rules)
+pub loop-chunk-preserved : goal.loop-chunk-preserved
+loop-chunk-preserved c = search (anim_laws, rules)

@@ -4,14 +4,11 @@ use Rattle.b3d_read_node_cells.proofs.OwnChunkLaws.{kind_laws}
 use borrow.Author.Rules.{rules}
 use Rattle.b3d_read_node_cells.proofs.kind_cells.Goals as goal
 
-pub loop-tag-init : goal.loop-tag-init
-loop-tag-init c = search (kind_laws, rules)
+pub loop-chunk-init : goal.loop-chunk-init
+loop-chunk-init c = search (kind_laws, rules)
 
 pub own_next-requires : goal.own_next-requires
 own_next-requires c = search (kind_laws, rules)
-
-pub enum_known-tag : goal.enum_known-tag
-enum_known-tag c = search (kind_laws, rules)
 
 pub enum_told-1 : goal.enum_told-1
 enum_told-1 c = search (kind_laws, rules)
@@ -28,8 +25,8 @@ cell-requires c = search (kind_laws, rules)
 pub returns-then-same : goal.returns-then-same
 returns-then-same c = search (kind_laws, rules)
 
-pub same-requires-in-loop-tag : goal.same-requires-in-loop-tag
-same-requires-in-loop-tag c = search (kind_laws, rules)
+pub same-requires-in-loop-chunk : goal.same-requires-in-loop-chunk
+same-requires-in-loop-chunk c = search (kind_laws, rules)
 
 pub overflow_sub-count : goal.overflow_sub-count
 overflow_sub-count c = search (kind_laws, rules)
@@ -43,8 +40,8 @@ cell-requires-then-same-2-2 c = search (kind_laws, rules)
 pub returns-then-same-2 : goal.returns-then-same-2
 returns-then-same-2 c = search (kind_laws, rules)
 
-pub loop-tag-smaller : goal.loop-tag-smaller
-loop-tag-smaller c = search (kind_laws, rules)
+pub loop-chunk-smaller : goal.loop-chunk-smaller
+loop-chunk-smaller c = search (kind_laws, rules)
 
-pub loop-tag-preserved : goal.loop-tag-preserved
-loop-tag-preserved c = search (kind_laws, rules)
+pub loop-chunk-preserved : goal.loop-chunk-preserved
+loop-chunk-preserved c = search (kind_laws, rules)

@@ -40,18 +40,6 @@ same-requires c = search (tree_laws, rules)
 pub named_row-requires : goal.named_row-requires
 named_row-requires c = search (tree_laws, rules)
 
-pub enum_told-in-Cut-named_row : goal.enum_told-in-Cut-named_row
-enum_told-in-Cut-named_row c = search (tree_laws, rules)
-
-pub shape_of-out-in-Cut-named_row : goal.shape_of-out-in-Cut-named_row
-shape_of-out-in-Cut-named_row c = search (tree_laws, rules)
-
-pub returns-in-Cut-named_row : goal.returns-in-Cut-named_row
-returns-in-Cut-named_row c = search (tree_laws, rules)
-
-pub enum_known-long : goal.enum_known-long
-enum_known-long c = search (tree_laws, rules)
-
 pub parent_at-parent-requires : goal.parent_at-parent-requires
 parent_at-parent-requires c = search (tree_laws, rules)
 
@@ -63,12 +51,6 @@ store_row-requires c = (search tree_laws, search tree_laws, search rules, search
 
 pub overflow_add-nodes : goal.overflow_add-nodes
 overflow_add-nodes c = more_nodes _ _ _ _ _ _ _ c.loop-tag.invariant c.requires.0
-
-pub loop-tag-smaller-in-Is : goal.loop-tag-smaller-in-Is
-loop-tag-smaller-in-Is c = search (tree_laws, rules)
-
-pub loop-tag-preserved-in-Is : goal.loop-tag-preserved-in-Is
-loop-tag-preserved-in-Is c = search (tree_laws, rules)
 
 pub same-requires-else-same : goal.same-requires-else-same
 same-requires-else-same c = search (tree_laws, rules)
@@ -102,3 +84,9 @@ loop-tag-smaller c = search (tree_laws, rules)
 
 pub loop-tag-preserved : goal.loop-tag-preserved
 loop-tag-preserved c = search (tree_laws, rules)
+
+pub returns-in_default : goal.returns-in_default
+returns-in_default c = search (tree_laws, rules)
+
+pub loop-tag-preserved-then-same : goal.loop-tag-preserved-then-same
+loop-tag-preserved-then-same c = search (tree_laws, rules)

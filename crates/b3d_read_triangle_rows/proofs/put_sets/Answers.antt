@@ -13,12 +13,6 @@ loop-b-init c = search (sets_laws, rules)
 pub seek-requires : goal.seek-requires
 seek-requires c = search (sets_laws, rules)
 
-pub enum_known-b : goal.enum_known-b
-enum_known-b c = search (sets_laws, rules)
-
-pub enum_told-1 : goal.enum_told-1
-enum_told-1 c = search (sets_laws, rules)
-
 pub shape_of-out-in_default : goal.shape_of-out-in_default
 shape_of-out-in_default c = search (sets_laws, rules)
 

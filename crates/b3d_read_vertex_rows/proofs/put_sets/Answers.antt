@@ -1,5 +1,4 @@
 -- `put_sets` stores the sets of a vertex that are there, then zeros for the others.
-use Prim.Native.Nat.{◌-◌}
 use borrow.Author.Rules.{rules}
 use Rattle.b3d_read_vertex_rows.proofs.SetLaws.{sets_laws}
 use Rattle.b3d_read_vertex_rows.proofs.put_sets.Goals as goal
@@ -10,17 +9,8 @@ loop-k-init c = search (sets_laws, rules)
 pub put_four-requires : goal.put_four-requires
 put_four-requires c = search (sets_laws, rules)
 
-pub overflow_add-p : goal.overflow_add-p
-overflow_add-p c = search (sets_laws, rules)
-
-pub overflow_add-o : goal.overflow_add-o
-overflow_add-o c = search (sets_laws, rules)
-
 pub loop-k-preserved : goal.loop-k-preserved
 loop-k-preserved c = search (sets_laws, rules)
-
-pub overflow_sub-k : goal.overflow_sub-k
-overflow_sub-k c = search (sets_laws, rules)
 
 pub zero_sets-requires : goal.zero_sets-requires
 zero_sets-requires c = search (sets_laws, rules)

@@ -3,35 +3,11 @@ use Rattle.b3d_rows_chunks.proofs.NextSetLaws.{find_laws}
 use borrow.Author.Rules.{rules}
 use Rattle.b3d_rows_chunks.proofs.find_set.Goals as goal
 
-pub loop-body-init : goal.loop-body-init
-loop-body-init c = search (find_laws, rules)
+pub returns-in-Some : goal.returns-in-Some
+returns-in-Some c = search (find_laws, rules)
 
-pub seek-requires : goal.seek-requires
-seek-requires c = search (find_laws, rules)
+pub returns-in_err-x : goal.returns-in_err-x
+returns-in_err-x c = let h = c.in_err-x.was in rw c.from_residual.ensures (search (find_laws, rules))
 
-pub enum_known-body : goal.enum_known-body
-enum_known-body c = search (find_laws, rules)
-
-pub returns-in-Found : goal.returns-in-Found
-returns-in-Found c = search (find_laws, rules)
-
-pub enum_told-1 : goal.enum_told-1
-enum_told-1 c = search (find_laws, rules)
-
-pub open_mesh-requires : goal.open_mesh-requires
-open_mesh-requires c = search (find_laws, rules)
-
-pub enum_known-y : goal.enum_known-y
-enum_known-y c = search (find_laws, rules)
-
-pub enum_told-in_default : goal.enum_told-in_default
-enum_told-in_default c = search (find_laws, rules)
-
-pub returns-in_default : goal.returns-in_default
-returns-in_default c = search (find_laws, rules)
-
-pub loop-body-smaller : goal.loop-body-smaller
-loop-body-smaller c = search (find_laws, rules)
-
-pub loop-body-preserved : goal.loop-body-preserved
-loop-body-preserved c = search (find_laws, rules)
+pub loop-set-preserved : goal.loop-set-preserved
+loop-set-preserved c = let h = c.in_ok-x.was in search (find_laws, rules)

@@ -6,12 +6,6 @@ use Rattle.b3d_rows_items.proofs.open_brushes.Goals as goal
 pub first_chunk-requires : goal.first_chunk-requires
 first_chunk-requires c = search (open_laws, rules)
 
-pub enum_known-body : goal.enum_known-body
-enum_known-body c = search (open_laws, rules)
-
-pub enum_told-1 : goal.enum_told-1
-enum_told-1 c = search (open_laws, rules)
-
 pub no_texts-requires : goal.no_texts-requires
 no_texts-requires c = search (open_laws, rules)
 

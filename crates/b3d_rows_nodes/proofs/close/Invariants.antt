@@ -3,7 +3,4 @@ use Rattle.b3d_rows_nodes.proofs.NodeStackLaws.{CloseLeft}
 use Rattle.b3d_rows_nodes.proofs.close.Given as goal
 
 abbrev pub invariant-loop-d : goal.invariant-loop-d
-invariant-loop-d l = CloseLeft l.ends l.initial.d l.p l.d
-
-abbrev pub decreases-loop-d : goal.decreases-loop-d
-decreases-loop-d l = l.d
+invariant-loop-d l = CloseLeft l.ends l.depth l.p l.d

@@ -7,9 +7,6 @@ use Rattle.b3d_rows_nodes.proofs.next_node.Goals as goal
 pub find_node-requires : goal.find_node-requires
 find_node-requires c = search (node_laws, rules)
 
-pub enum_known-p : goal.enum_known-p
-enum_known-p c = search (node_laws, rules)
-
 pub enum_told-1 : goal.enum_told-1
 enum_told-1 c = search (node_laws, rules)
 

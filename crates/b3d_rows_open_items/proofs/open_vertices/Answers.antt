@@ -9,12 +9,6 @@ first_word-head-requires c = search (vertices_laws, rules)
 pub seek-requires : goal.seek-requires
 seek-requires c = search (vertices_laws, rules)
 
-pub enum_told-1 : goal.enum_told-1
-enum_told-1 c = search (vertices_laws, rules)
-
-pub enum_known-b : goal.enum_known-b
-enum_known-b c = search (vertices_laws, rules)
-
 pub three_words-h-requires : goal.three_words-h-requires
 three_words-h-requires c = search (vertices_laws, rules)
 
@@ -27,8 +21,8 @@ at_most-size-requires c = search (vertices_laws, rules)
 pub vertex_words-words-requires : goal.vertex_words-words-requires
 vertex_words-words-requires c = search (vertices_laws, rules)
 
-pub returns-in-Nothing : goal.returns-in-Nothing
-returns-in-Nothing c = search (vertices_laws, rules)
+pub returns-in_default : goal.returns-in_default
+returns-in_default c = search (vertices_laws, rules)
 
-pub returns-in-Found : goal.returns-in-Found
-returns-in-Found c = search (vertices_laws, rules)
+pub returns : goal.returns
+returns c = search (vertices_laws, rules)

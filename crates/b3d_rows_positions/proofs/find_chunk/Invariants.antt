@@ -4,8 +4,8 @@ use lib.ListN.{length}
 use Rattle.b3d_rows_positions.proofs.FindChunkLaws.{FindChunkLeft}
 use Rattle.b3d_rows_positions.proofs.find_chunk.Given as goal
 
-abbrev pub invariant-loop-t : goal.invariant-loop-t
-invariant-loop-t l = FindChunkLeft l.file l.from l.tag l.before l.at l.nodes
+abbrev pub invariant-loop-chunk : goal.invariant-loop-chunk
+invariant-loop-chunk l = FindChunkLeft l.file l.from l.tag l.before l.at l.nodes
 
-abbrev pub decreases-loop-t : goal.decreases-loop-t
-decreases-loop-t l = length l.file - l.at
+abbrev pub decreases-loop-chunk : goal.decreases-loop-chunk
+decreases-loop-chunk l = length l.file - l.at

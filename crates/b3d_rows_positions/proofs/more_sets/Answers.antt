@@ -12,14 +12,11 @@ enum_told-1 c = search (sets_laws, rules)
 pub open_mesh-requires : goal.open_mesh-requires
 open_mesh-requires c = search (sets_laws, rules)
 
-pub enum_known-p : goal.enum_known-p
-enum_known-p c = search (sets_laws, rules)
-
 pub open_items-items-requires : goal.open_items-items-requires
 open_items-items-requires c = search (sets_laws, rules)
 
-pub returns-in-Nothing : goal.returns-in-Nothing
-returns-in-Nothing c = search (sets_laws, rules)
+pub returns-in_default : goal.returns-in_default
+returns-in_default c = search (sets_laws, rules)
 
-pub returns-in-Found : goal.returns-in-Found
-returns-in-Found c = search (sets_laws, rules)
+pub returns : goal.returns
+returns c = search (sets_laws, rules)

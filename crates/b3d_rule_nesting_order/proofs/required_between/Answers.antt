@@ -1,5 +1,4 @@
--- `required_between` looks through a row of the table. Its measure is the columns left.
-use Prim.Native.Nat.{◌-◌}
+-- `required_between` looks through a row of the table.
 use borrow.Author.Rules.{rules}
 use Rattle.b3d_rule_nesting_order.proofs.RowLaws.{looking}
 use Rattle.b3d_rule_nesting_order.proofs.required_between.Goals as goal

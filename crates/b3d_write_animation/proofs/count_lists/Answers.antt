@@ -1,5 +1,4 @@
--- `count_lists` passes the key lists of a node. Those before i are its own; the measure is how many rows are left.
-use Prim.Native.Nat.{◌-◌}
+-- `count_lists` passes the key lists of a node. Those before i are its own.
 use Rattle.b3d_write_animation.proofs.MoveLaws.{count_laws, count_one, count_stop}
 use borrow.Author.Rules.{rules}
 use Rattle.b3d_write_animation.proofs.count_lists.Goals as goal
@@ -19,17 +18,8 @@ overflow_sub-result c = search (count_laws, rules)
 pub returns-then-number-node : goal.returns-then-number-node
 returns-then-number-node c = count_stop _ _ _ _ c.loop-i.invariant c.loop-i-test.true _ c.number.ensures.0 c.if-number-node.true
 
-pub overflow_add-i : goal.overflow_add-i
-overflow_add-i c = search (count_laws, rules)
-
-pub loop-i-smaller : goal.loop-i-smaller
-loop-i-smaller c = search (count_laws, rules)
-
 pub loop-i-preserved : goal.loop-i-preserved
 loop-i-preserved c = count_one _ _ _ _ c.loop-i.invariant c.loop-i-test.true _ c.number.ensures.0 c.if-number-node.false
-
-pub overflow_sub-result-2 : goal.overflow_sub-result-2
-overflow_sub-result-2 c = search (count_laws, rules)
 
 pub returns : goal.returns
 returns c = search (count_laws, rules)

@@ -1,5 +1,4 @@
--- `put_runs` writes a chunk for each row. The loop has written those before i; its measure is how many are left.
-use Prim.Native.Nat.{◌-◌}
+-- `put_runs` writes a chunk for each row. The loop has written those before i.
 use Rattle.b3d_write_item_lists.proofs.GroupByGroupLaws.{runs_laws}
 use Rattle.b3d_write_item_lists.proofs.RunLaws.{runs_are}
 use borrow.Author.Rules.{rules}
@@ -46,12 +45,6 @@ overflow_add-at c = search (runs_laws, runs_are, rules)
 
 pub overflow_add-next : goal.overflow_add-next
 overflow_add-next c = search (runs_laws, runs_are, rules)
-
-pub overflow_add-i : goal.overflow_add-i
-overflow_add-i c = search (runs_laws, runs_are, rules)
-
-pub loop-i-smaller : goal.loop-i-smaller
-loop-i-smaller c = search (runs_laws, runs_are, rules)
 
 pub loop-i-preserved : goal.loop-i-preserved
 loop-i-preserved c = search (runs_laws, rules)

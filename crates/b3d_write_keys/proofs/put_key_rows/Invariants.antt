@@ -1,9 +1,7 @@
--- `put_key_rows` writes rows by the runs of a key. The loop has `left` rows to write, which is its measure.
-use Rattle.b3d_write_row_runs.proofs.PresentWordLaws.{Left}
+-- `put_key_rows` writes rows by the runs of a key. The loop has written the first i.
+use Prim.Native.Nat.{◌*◌}
+use Rattle.b3d_write_row_runs.proofs.PresentWordLaws.{From}
 use Rattle.b3d_write_keys.proofs.put_key_rows.Given as goal
 
-abbrev pub invariant-loop-left : goal.invariant-loop-left
-invariant-loop-left l = Left l.g 11 l.keys l.initial.b l.initial.left l.initial.out l.out l.at l.b l.left
-
-abbrev pub decreases-loop-left : goal.decreases-loop-left
-decreases-loop-left l = l.left
+abbrev pub invariant-loop-i : goal.invariant-loop-i
+invariant-loop-i l = From l.g 11 l.keys (11 * l.first) l.count l.initial.out l.out l.at l.i

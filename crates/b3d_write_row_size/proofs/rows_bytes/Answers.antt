@@ -1,5 +1,4 @@
--- `rows_bytes` adds up the rows; its measure is how many are left.
-use Prim.Native.Nat.{◌-◌}
+-- `rows_bytes` adds up the rows.
 use Rattle.b3d_write_row_size.proofs.RowLaws.{sum_laws}
 use borrow.Author.Rules.{rules}
 use Rattle.b3d_write_row_size.proofs.rows_bytes.Goals as goal
@@ -15,12 +14,6 @@ row_bytes-n-requires c = search (sum_laws, rules)
 
 pub overflow_add-n : goal.overflow_add-n
 overflow_add-n c = search (sum_laws, rules)
-
-pub overflow_add-i : goal.overflow_add-i
-overflow_add-i c = search (sum_laws, rules)
-
-pub loop-i-smaller : goal.loop-i-smaller
-loop-i-smaller c = search (sum_laws, rules)
 
 pub loop-i-preserved : goal.loop-i-preserved
 loop-i-preserved c = search (sum_laws, rules)

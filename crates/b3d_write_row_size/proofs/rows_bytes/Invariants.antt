@@ -1,10 +1,6 @@
--- `rows_bytes` adds up the rows; its measure is how many are left.
-use Prim.Native.Nat.{◌-◌}
+-- `rows_bytes` adds up the rows.
 use Rattle.b3d_write_row_size.proofs.RowLaws.{Summed}
 use Rattle.b3d_write_row_size.proofs.rows_bytes.Given as goal
 
 abbrev pub invariant-loop-i : goal.invariant-loop-i
 invariant-loop-i l = Summed l.which l.more l.width l.count l.table l.n l.i
-
-abbrev pub decreases-loop-i : goal.decreases-loop-i
-decreases-loop-i l = l.count - l.i

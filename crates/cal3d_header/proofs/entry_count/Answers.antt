@@ -6,9 +6,6 @@ use Rattle.cal3d_header.proofs.entry_count.Goals as goal
 pub returns-then-n-lt-FEWEST_BYTES : goal.returns-then-n-lt-FEWEST_BYTES
 returns-then-n-lt-FEWEST_BYTES c = search (head, rules)
 
-pub returns-then-n-gt-MOST_BYTES : goal.returns-then-n-gt-MOST_BYTES
-returns-then-n-gt-MOST_BYTES c = search (head, rules)
-
 pub returns-then-number_at-magic : goal.returns-then-number_at-magic
 returns-then-number_at-magic c = search (head, rules)
 

@@ -1,8 +1,7 @@
 -- `fill_mesh` goes from submesh to submesh. Facts that lie far back are named.
-use Prim.Native.Nat.{◌-◌}
 use borrow.Author.Rules.{rules}
 use Rattle.shared_table_words.proofs.StoreLaws.{part-long}
-use Rattle.cal3d_mesh_fill.proofs.FillLaws.{turn-less, start-head, mesh-start, mesh-done, turn-head, turn-fit, turn_submesh, fits_row, fits_next, fits_head, turn_vertices, turn-springs_in, turn-springs, turn-faces_in, turn-faces, turn-few, springs-before, faces-before, fits-springs, fits-faces, turn_end, turn_next}
+use Rattle.cal3d_mesh_fill.proofs.FillLaws.{start-head, mesh-start, mesh-done, turn-head, turn-fit, turn_submesh, fits_row, fits_head, turn_vertices, turn-springs_in, turn-springs, turn-faces_in, turn-faces, turn-few, springs-before, faces-before, fits-springs, fits-faces, turn_end, turn_next}
 use Rattle.cal3d_mesh_fill.proofs.fill_mesh.Goals as goal
 
 pub number_at-requires : goal.number_at-requires
@@ -40,12 +39,6 @@ put_rows-requires-in-loop-i c = let inv = c.loop-i.invariant in let more = c.loo
 
 pub pass_submesh-m-requires : goal.pass_submesh-m-requires
 pass_submesh-m-requires c = let inv = c.loop-i.invariant in let more = c.loop-i-test.true in let small = c.requires.small in let shape = c.shape_at-x.ensures in let held = c.put_vertices-v.ensures in (turn_end _ _ _ _ _ _ _ _ _ _ _ _ _ _ _ _ inv more _ shape _ _ _ _ held small, turn-few _ _ _ _ _ _ _ _ _ _ _ _ _ _ _ _ inv more _ shape _ _ _ _ held, springs-before _ _ _ _ _ _ _ _ _ _ _ _ _ _ _ _ inv more _ shape _ _ _ _ held, faces-before _ _ _ _ _ _ _ _ _ _ _ _ _ _ _ _ inv more _ shape _ _ _ _ held)
-
-pub overflow_add-i : goal.overflow_add-i
-overflow_add-i c = let inv = c.loop-i.invariant in let more = c.loop-i-test.true in let small = c.requires.small in fits_next _ _ _ _ _ _ _ _ _ _ _ _ _ _ _ _ inv more small
-
-pub loop-i-smaller : goal.loop-i-smaller
-loop-i-smaller c = let more = c.loop-i-test.true in turn-less _ _ more
 
 pub loop-i-preserved : goal.loop-i-preserved
 loop-i-preserved c = let inv = c.loop-i.invariant in let more = c.loop-i-test.true in let shape = c.shape_at-x.ensures in let row = c.put_submesh.ensures in let held = c.put_vertices-v.ensures in let springs = c.put_rows.ensures in let faces = c.put_rows-in-loop-i.ensures in let passed = c.pass_submesh-m.ensures in turn_next _ _ _ _ _ _ _ _ _ _ _ _ _ _ _ _ inv more _ shape _ _ _ _ held _ _ _ _ row springs faces passed

@@ -1,5 +1,4 @@
 -- `put_vertices` goes from vertex to vertex.
-use Prim.Native.Nat.{◌-◌}
 use borrow.Author.Rules.{rules}
 use Rattle.cal3d_mesh_vertex_rows.proofs.VerticesLaws.{turns}
 use Rattle.cal3d_mesh_vertex_rows.proofs.put_vertices.Goals as goal

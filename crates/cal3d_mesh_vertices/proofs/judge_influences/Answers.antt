@@ -1,4 +1,5 @@
 -- `judge_influences` answers `read_influences`.
+use Rattle.std.proofs.lemmas.Result.{err_from_is_err_and}
 use borrow.Author.Rules.{rules}
 use Rattle.cal3d_mesh_vertices.proofs.PartLaws.{parts}
 use Rattle.cal3d_mesh_vertices.proofs.judge_influences.Goals as goal
@@ -9,11 +10,11 @@ returns-then-stored-gt2147483647 c = search (parts, rules)
 pub id_rows-requires : goal.id_rows-requires
 id_rows-requires c = search (parts, rules)
 
-pub returns-in-Cut : goal.returns-in-Cut
-returns-in-Cut c = search (parts, rules)
+pub returns-in_default : goal.returns-in_default
+returns-in_default c = search (parts, rules)
 
-pub returns-in-Reject : goal.returns-in-Reject
-returns-in-Reject c = search (parts, rules)
+pub returns-in_err-next : goal.returns-in_err-next
+returns-in_err-next c = let h = c.in_err-next.was in let p = err_from_is_err_and c.from_residual.result c.from_residual.ensures.1 in rw (p.1, p.2) (search (parts, rules))
 
-pub returns-in-Accept : goal.returns-in-Accept
-returns-in-Accept c = search (parts, rules)
+pub returns : goal.returns
+returns c = let h = c.in_ok-next.was in search (parts, rules)

@@ -6,8 +6,8 @@ use Rattle.cal3d_skeleton.proofs.judge.Goals as goal
 pub accepted-requires : goal.accepted-requires
 accepted-requires c = search (answering, rules)
 
-pub returns-in-Reject : goal.returns-in-Reject
-returns-in-Reject c = search (answering, rules)
+pub returns-in-Err : goal.returns-in-Err
+returns-in-Err c = search (answering, rules)
 
-pub returns-in-Accept : goal.returns-in-Accept
-returns-in-Accept c = search (answering, rules)
+pub returns-in-Ok : goal.returns-in-Ok
+returns-in-Ok c = search (answering, rules)

@@ -7,11 +7,11 @@ use Rattle.cal3d_skeleton_bones.proofs.lay_bone.Goals as goal
 pub judge_links-requires : goal.judge_links-requires
 judge_links-requires c = search (bone, rules)
 
-pub returns-in-Reject : goal.returns-in-Reject
-returns-in-Reject c = search (lay, rules)
+pub returns-in_default : goal.returns-in_default
+returns-in_default c = search (lay, rules)
 
-pub returns-in-Reject-judge_links : goal.returns-in-Reject-judge_links
-returns-in-Reject-judge_links c = search (lay, rules)
+pub returns-in_default-judge_links : goal.returns-in_default-judge_links
+returns-in_default-judge_links c = search (lay, rules)
 
-pub returns-in-Accept-judge_links : goal.returns-in-Accept-judge_links
-returns-in-Accept-judge_links c = search (lay, rules)
+pub returns : goal.returns
+returns c = search (lay, rules)

@@ -1,5 +1,4 @@
--- `fill` stores the rows of each bone. Its measure is how many bones are left.
-use Prim.Native.Nat.{◌-◌}
+-- `fill` stores the rows of each bone.
 use mathlib.Core.Path.{◌≡◌}
 use lib.ListN.{length}
 use Rattle.cal3d_skeleton_tree_file.specs.Links.{bones_at}
@@ -8,6 +7,3 @@ use Rattle.cal3d_skeleton_rows.proofs.fill.Given as goal
 
 abbrev pub invariant-loop-i : goal.invariant-loop-i
 invariant-loop-i l = Filling l.s l.count (bones_at l.s l.initial.c l.count) l.initial.bones l.initial.children l.c l.i l.before l.bones l.children × (length l.bones ≡ length l.initial.bones) × (length l.children ≡ length l.initial.children)
-
-abbrev pub decreases-loop-i : goal.decreases-loop-i
-decreases-loop-i l = l.count - l.i

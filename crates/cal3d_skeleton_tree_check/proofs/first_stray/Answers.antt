@@ -1,7 +1,6 @@
--- `first_stray` answers the lowest bone that does not stand right. The loop has passed bones that do; its measure is how many are left.
+-- `first_stray` answers the lowest bone that does not stand right. The loop has passed bones that do.
 use mathlib.Core.Path.{ap}
 use mathlib.Core.Bool.{not}
-use Prim.Native.Nat.{◌-◌}
 use borrow.Author.Rules.{rules}
 use Rattle.cal3d_skeleton_tree_check.proofs.StrayLaws.{straying, stray_score, stray_ends, stray_kept, stray_next}
 use Rattle.cal3d_skeleton_tree_check.proofs.first_stray.Goals as goal

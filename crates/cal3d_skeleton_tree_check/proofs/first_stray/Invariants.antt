@@ -1,5 +1,4 @@
--- `first_stray` answers the lowest bone that does not stand right. The loop has passed bones that do; its measure is how many are left.
-use Prim.Native.Nat.{◌-◌}
+-- `first_stray` answers the lowest bone that does not stand right. The loop has passed bones that do.
 use mathlib.Core.Path.{◌≡◌}
 use lib.ListN.{length}
 use Rattle.cal3d_skeleton_tree_check.proofs.StrayLaws.{Straying}
@@ -7,6 +6,3 @@ use Rattle.cal3d_skeleton_tree_check.proofs.first_stray.Given as goal
 
 abbrev pub invariant-loop-b : goal.invariant-loop-b
 invariant-loop-b l = Straying l.parents l.scores l.marks l.b × (length l.marks ≡ length l.initial.marks)
-
-abbrev pub decreases-loop-b : goal.decreases-loop-b
-decreases-loop-b l = length l.parents - l.b

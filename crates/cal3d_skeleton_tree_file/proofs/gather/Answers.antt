@@ -1,5 +1,4 @@
--- `gather` stores the parents. Its measure is how many bones are left.
-use Prim.Native.Nat.{◌-◌}
+-- `gather` stores the parents.
 use mathlib.Core.Path.{refl}
 use borrow.Author.Rules.{rules}
 use Rattle.cal3d_skeleton_tree_file.proofs.GatherLaws.{gathers, gather_room}
@@ -14,8 +13,8 @@ lay_bone-requires c = search (gathers, rules)
 pub returns-in_default : goal.returns-in_default
 returns-in_default c = search (gathers, rules)
 
-pub overflow_add-numbers : goal.overflow_add-numbers
-overflow_add-numbers c = let k = gather_room _ _ _ _ _ _ _ c.loop-i.invariant.0 c.loop-i-test.true _ c.lay_bone.ensures _ _ _ c.in-At.is in
+pub overflow_add-bone : goal.overflow_add-bone
+overflow_add-bone c = let k = gather_room _ _ _ _ _ _ _ c.loop-i.invariant.0 c.loop-i-test.true _ c.lay_bone.ensures _ c.in-Some.is in
     search rules
 
 pub number_at-requires : goal.number_at-requires

@@ -1,5 +1,4 @@
--- `tell` notes each bone's list. Its measure is how many bones are left.
-use Prim.Native.Nat.{◌-◌}
+-- `tell` notes each bone's list.
 use mathlib.Core.Path.{refl, sym, ◌∙◌}
 use native.Mathlib.Omega.{arith}
 use borrow.Author.Rules.{rules}
@@ -15,8 +14,8 @@ lay_bone-requires c = search (tells, rules)
 pub returns-in_default : goal.returns-in_default
 returns-in_default c = search (tells, rules)
 
-pub overflow_add-numbers : goal.overflow_add-numbers
-overflow_add-numbers c = let room = tell_room _ _ _ _ _ _ _ _ c.loop-i.invariant.0 c.loop-i-test.true _ c.lay_bone.ensures _ _ _ c.in-At.is in
+pub overflow_add-bone : goal.overflow_add-bone
+overflow_add-bone c = let room = tell_room _ _ _ _ _ _ _ _ c.loop-i.invariant.0 c.loop-i-test.true _ c.lay_bone.ensures _ c.in-Some.is in
     let small = c.requires.0.small in
     omega arith
 
@@ -26,18 +25,18 @@ overflow_cast-i c = let less = c.loop-i-test.true in
     omega arith
 
 pub note_list-requires : goal.note_list-requires
-note_list-requires c = let room = tell_room _ _ _ _ _ _ _ _ c.loop-i.invariant.0 c.loop-i-test.true _ c.lay_bone.ensures _ _ _ c.in-At.is in
-    let few = tell_entries _ _ _ _ _ _ _ _ c.loop-i.invariant.0 c.loop-i-test.true _ c.lay_bone.ensures _ _ _ c.in-At.is c.requires.0.small in
+note_list-requires c = let room = tell_room _ _ _ _ _ _ _ _ c.loop-i.invariant.0 c.loop-i-test.true _ c.lay_bone.ensures _ c.in-Some.is in
+    let few = tell_entries _ _ _ _ _ _ _ _ c.loop-i.invariant.0 c.loop-i-test.true _ c.lay_bone.ensures _ c.in-Some.is c.requires.0.small in
     let t = c.loop-i.invariant.0 in
-    record { count_in_bounds = (room, few); scores_len = (t.same ∙ sym t.long, t.low, tell_listed _ _ _ _ _ _ _ _ c.loop-i.invariant.0 c.loop-i-test.true _ c.lay_bone.ensures _ _ _ c.in-At.is) }
+    record { count_in_bounds = (room, few); scores_len = (t.same ∙ sym t.long, t.low, tell_listed _ _ _ _ _ _ _ _ c.loop-i.invariant.0 c.loop-i-test.true _ c.lay_bone.ensures _ c.in-Some.is) }
 
 pub overflow_add-entries : goal.overflow_add-entries
-overflow_add-entries c = let few = tell_entries _ _ _ _ _ _ _ _ c.loop-i.invariant.0 c.loop-i-test.true _ c.lay_bone.ensures _ _ _ c.in-At.is c.requires.0.small in
+overflow_add-entries c = let few = tell_entries _ _ _ _ _ _ _ _ c.loop-i.invariant.0 c.loop-i-test.true _ c.lay_bone.ensures _ c.in-Some.is c.requires.0.small in
     omega arith
 
 pub loop-i-preserved : goal.loop-i-preserved
 loop-i-preserved c = let e = c.note_list.ensures in
-    (tell_next _ _ _ _ _ _ _ _ c.loop-i.invariant.0 c.loop-i-test.true _ c.lay_bone.ensures _ _ _ c.in-At.is _ refl _ e.0 e.1, search rules)
+    (tell_next _ _ _ _ _ _ _ _ c.loop-i.invariant.0 c.loop-i-test.true _ c.lay_bone.ensures _ c.in-Some.is _ refl _ e.0 e.1, search rules)
 
 pub returns : goal.returns
 returns c = search (tells, rules)

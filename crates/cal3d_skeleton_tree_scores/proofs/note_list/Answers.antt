@@ -1,5 +1,4 @@
--- `note_list` notes each entry of a bone's list. The loop has noted those before i; its measure is how many are left.
-use Prim.Native.Nat.{◌-◌}
+-- `note_list` notes each entry of a bone's list. The loop has noted those before i.
 use native.Mathlib.Omega.{arith}
 use borrow.Author.Rules.{rules}
 use Rattle.cal3d_skeleton_tree_scores.proofs.NoteLaws.{noting, noting_low, noting_bone}

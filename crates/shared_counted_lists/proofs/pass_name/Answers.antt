@@ -15,8 +15,8 @@ returns-then-end-at c = search (names, rules)
 pub overflow_add-result : goal.overflow_add-result
 overflow_add-result c = search (names, rules)
 
-pub returns-in-Cut : goal.returns-in-Cut
-returns-in-Cut c = search (names, rules)
+pub returns-in_default : goal.returns-in_default
+returns-in_default c = search (names, rules)
 
-pub returns-else-end-at : goal.returns-else-end-at
-returns-else-end-at c = search (names, rules)
+pub returns : goal.returns
+returns c = search (names, rules)

@@ -1,4 +1,4 @@
--- `first_invalid` answers `first_bad` of the words. The loop has passed words that keep the rule; its measure is how many are left.
+-- `first_invalid` answers `first_bad` of the words. The loop has passed words that keep the rule.
 use native.Mathlib.Nat.{le_of_lt}
 use borrow.Author.Rules.{rules}
 use Rattle.shared_ids.proofs.IdLaws.{firsts}

@@ -1,4 +1,4 @@
--- `copy_bytes` writes byte by byte. The loop has written i of them; its measure is how many are left.
+-- `copy_bytes` writes byte by byte. The loop has written i of them.
 use Rattle.shared_output.proofs.OutputLaws.{copy_laws}
 use borrow.Author.Rules.{rules}
 use Rattle.shared_output.proofs.copy_bytes.Goals as goal
@@ -14,12 +14,6 @@ bounds-src-from c = search (copy_laws, rules)
 
 pub bounds-out-i : goal.bounds-out-i
 bounds-out-i c = search (copy_laws, rules)
-
-pub overflow_add-i : goal.overflow_add-i
-overflow_add-i c = search (copy_laws, rules)
-
-pub loop-i-smaller : goal.loop-i-smaller
-loop-i-smaller c = search (copy_laws, rules)
 
 pub loop-i-preserved : goal.loop-i-preserved
 loop-i-preserved c = search (copy_laws, rules)

@@ -1,4 +1,4 @@
--- `put_words` writes word by word. The loop has written i of them; its measure is how many are left.
+-- `put_words` writes word by word. The loop has written i of them.
 use Rattle.shared_output.proofs.OutputLaws.{words_laws}
 use borrow.Author.Rules.{rules}
 use Rattle.shared_output.proofs.put_words.Goals as goal
@@ -29,12 +29,6 @@ put_number-requires c = search (words_laws, rules)
 
 pub overflow_add-at : goal.overflow_add-at
 overflow_add-at c = search (words_laws, rules)
-
-pub overflow_add-i : goal.overflow_add-i
-overflow_add-i c = search (words_laws, rules)
-
-pub loop-i-smaller : goal.loop-i-smaller
-loop-i-smaller c = search (words_laws, rules)
 
 pub loop-i-preserved : goal.loop-i-preserved
 loop-i-preserved c = search (words_laws, rules)

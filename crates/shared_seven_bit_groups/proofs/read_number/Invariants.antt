@@ -1,9 +1,6 @@
--- `read_number` reads a group a turn: the groups that the number may still take fall.
+-- `read_number` reads a group a turn: those from p on are left.
 use Rattle.shared_seven_bit_groups.proofs.NumberLaws.{GroupsLeft}
 use Rattle.shared_seven_bit_groups.proofs.read_number.Given as goal
 
-abbrev pub invariant-loop-left : goal.invariant-loop-left
-invariant-loop-left l = GroupsLeft l.s l.at l.most l.left l.v l.p
-
-abbrev pub decreases-loop-left : goal.decreases-loop-left
-decreases-loop-left l = l.left
+abbrev pub invariant-loop : goal.invariant-loop
+invariant-loop l = GroupsLeft l.s l.at l.most l.counter l.v l.p

@@ -1,4 +1,4 @@
--- `copy_run` stores words of the file. The loop has stored those before i; its measure is how many are left.
+-- `copy_run` stores words of the file. The loop has stored those before i.
 use borrow.Author.Rules.{rules}
 use Rattle.shared_table_words.proofs.CopyLaws.{copying}
 use Rattle.shared_table_words.proofs.copy_run.Goals as goal

@@ -1,4 +1,4 @@
--- `put_cells` stores the cells. The loop has stored those before i; its measure is how many are left.
+-- `put_cells` stores the cells. The loop has stored those before i.
 use borrow.Author.Rules.{rules}
 use Rattle.shared_table_words.proofs.StoreLaws.{storing}
 use Rattle.shared_table_words.proofs.put_cells.Goals as goal

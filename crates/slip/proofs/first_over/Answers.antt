@@ -1,5 +1,4 @@
 -- `first_over` looks at one number a turn: the first from i on is the first of all.
-use Prim.Native.Nat.{◌-◌}
 use borrow.Author.Rules.{rules}
 use Rattle.slip.proofs.SlipWriteLaws.{looking_laws}
 use Rattle.slip.proofs.first_over.Goals as goal

@@ -1,5 +1,4 @@
 -- `put_slip` puts one number a turn: those from i on are left.
-use Prim.Native.Nat.{◌-◌}
 use borrow.Author.Rules.{rules}
 use Rattle.slip.proofs.SlipWriteLaws.{putting_laws}
 use Rattle.slip.proofs.put_slip.Goals as goal

@@ -1,10 +1,6 @@
 -- `put_slip` puts one number a turn: those from i on are left.
-use Prim.Native.Nat.{◌-◌}
 use Rattle.slip.proofs.SlipWriteLaws.{NumbersLeft}
 use Rattle.slip.proofs.put_slip.Given as goal
 
 abbrev pub invariant-loop-i : goal.invariant-loop-i
 invariant-loop-i l = NumbersLeft l.numbers l.initial.out l.out l.at l.i
-
-abbrev pub decreases-loop-i : goal.decreases-loop-i
-decreases-loop-i l = 12 - l.i

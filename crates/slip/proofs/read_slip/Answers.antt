@@ -1,5 +1,4 @@
 -- `read_slip` reads one number a turn: those from i on are left.
-use Prim.Native.Nat.{◌-◌}
 use borrow.Author.Rules.{rules}
 use Rattle.slip.proofs.ReadLaws.{read_laws}
 use Rattle.slip.proofs.read_slip.Goals as goal
@@ -9,9 +8,6 @@ loop-i-init c = search (read_laws, rules)
 
 pub refused-requires : goal.refused-requires
 refused-requires c = search (read_laws, rules)
-
-pub returns-in-Reject : goal.returns-in-Reject
-returns-in-Reject c = search (read_laws, rules)
 
 pub loop-i-preserved : goal.loop-i-preserved
 loop-i-preserved c = search (read_laws, rules)
@@ -24,3 +20,6 @@ returns-then-at-slip c = search (read_laws, rules)
 
 pub returns : goal.returns
 returns c = search (read_laws, rules)
+
+pub returns-in-Err : goal.returns-in-Err
+returns-in-Err c = search (read_laws, rules)

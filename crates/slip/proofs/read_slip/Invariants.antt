@@ -1,10 +1,6 @@
 -- `read_slip` reads one number a turn: those from i on are left.
-use Prim.Native.Nat.{◌-◌}
 use Rattle.slip.proofs.ReadLaws.{SlipLeft}
 use Rattle.slip.proofs.read_slip.Given as goal
 
 abbrev pub invariant-loop-i : goal.invariant-loop-i
 invariant-loop-i l = SlipLeft l.slip l.numbers l.at l.i
-
-abbrev pub decreases-loop-i : goal.decreases-loop-i
-decreases-loop-i l = 12 - l.i

@@ -1,5 +1,4 @@
 -- `slip_size` adds up the groups of one number a turn: those from i on are left.
-use Prim.Native.Nat.{◌-◌}
 use borrow.Author.Rules.{rules}
 use Rattle.slip.proofs.SlipWriteLaws.{adding_laws}
 use Rattle.slip.proofs.slip_size.Goals as goal

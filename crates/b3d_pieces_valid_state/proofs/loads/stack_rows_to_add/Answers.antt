@@ -1,5 +1,4 @@
 -- `stack_rows_to_add` holds just where the statement does.
-use Prim.Native.Nat.{◌-◌}
 use borrow.Author.Rules.{rules}
 use Rattle.b3d_pieces_valid_state.proofs.RowTestLaws.{loaded_laws}
 use Rattle.b3d_pieces_valid_state.proofs.loads.stack_rows_to_add.Goals as goal

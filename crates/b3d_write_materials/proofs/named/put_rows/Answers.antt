@@ -1,13 +1,16 @@
--- `put_rows` writes row by row. The loop has `left` rows to write, which is its measure.
+-- `put_rows` writes row by row. The loop has written the first i.
 use Rattle.b3d_write_materials.proofs.NamedRowLaws.{named_laws}
 use borrow.Author.Rules.{rules}
 use Rattle.b3d_write_materials.proofs.named.put_rows.Goals as goal
 
-pub loop-left-init : goal.loop-left-init
-loop-left-init c = search (named_laws, rules)
+pub loop-i-init : goal.loop-i-init
+loop-i-init c = search (named_laws, rules)
 
-pub overflow_add-b : goal.overflow_add-b
-overflow_add-b c = search (named_laws, rules)
+pub overflow_mul-row : goal.overflow_mul-row
+overflow_mul-row c = search (named_laws, rules)
+
+pub overflow_add-row : goal.overflow_add-row
+overflow_add-row c = search (named_laws, rules)
 
 pub slice_bounds-put_named-count : goal.slice_bounds-put_named-count
 slice_bounds-put_named-count c = search (named_laws, rules)
@@ -24,17 +27,8 @@ put_named-size-requires c = search (named_laws, rules)
 pub overflow_add-at : goal.overflow_add-at
 overflow_add-at c = search (named_laws, rules)
 
-pub overflow_add-b-in-loop-left : goal.overflow_add-b-in-loop-left
-overflow_add-b-in-loop-left c = search (named_laws, rules)
-
-pub overflow_sub-left : goal.overflow_sub-left
-overflow_sub-left c = search (named_laws, rules)
-
-pub loop-left-smaller : goal.loop-left-smaller
-loop-left-smaller c = search (named_laws, rules)
-
-pub loop-left-preserved : goal.loop-left-preserved
-loop-left-preserved c = search (named_laws, rules)
+pub loop-i-preserved : goal.loop-i-preserved
+loop-i-preserved c = search (named_laws, rules)
 
 pub shape_of-out : goal.shape_of-out
 shape_of-out c = search (named_laws, rules)

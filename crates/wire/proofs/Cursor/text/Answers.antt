@@ -1,4 +1,4 @@
--- `text` answers what `text_at` finds. The loop has passed bytes that are not zero; its measure is what is left.
+-- `text` answers what `text_at` finds. The loop has passed bytes that are not zero.
 use borrow.Author.Rules.{rules}
 use Rattle.wire.proofs.ReadLaws.{reading}
 use Rattle.wire.proofs.Cursor.text.Goals as goal
