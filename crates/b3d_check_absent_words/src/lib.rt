@@ -41,16 +41,16 @@ fn few_zeros(t: &[u32], at: usize, n: usize) -> bool
     }
 }
 
-// Returns whether the `n` words of `t` from word `at` on are 0; most often `n` is 0 or `most`, which the compiler knows where this is called.
-fn full_zeros(t: &[u32], at: usize, n: usize, most: usize) -> bool
+// Returns whether the `n` words of `t` from word `at` on are 0; most often `n` is 0 or `MOST`, a constant, so that the compiler knows the count.
+fn full_zeros<const MOST: usize>(t: &[u32], at: usize, n: usize) -> bool
     requires { at + n ≤ length t.now }
     ensures { result ≡ zeros_at n t.now at }
 {
     if n == 0 {
         return zeros(t, at, 0);
     }
-    if n == most {
-        return zeros(t, at, most);
+    if n == MOST {
+        return zeros(t, at, MOST);
     }
     zeros(t, at, n)
 }
@@ -75,9 +75,9 @@ fn key_clean(g: RowRuns, t: &[u32], base: usize) -> bool
     let p = base + 1;
     let q = p + 3;
     let s = q + 3;
-    let a = full_zeros(t, p + g.three, 3 - g.three, 3);
-    let b = full_zeros(t, q + g.some, 3 - g.some, 3);
-    let c = full_zeros(t, s + g.size, 4 - g.size, 4);
+    let a = full_zeros::<3>(t, p + g.three, 3 - g.three);
+    let b = full_zeros::<3>(t, q + g.some, 3 - g.some);
+    let c = full_zeros::<4>(t, s + g.size, 4 - g.size);
     a & (b & c)
 }
 
@@ -90,10 +90,10 @@ fn vertex_clean(g: RowRuns, t: &[u32], base: usize) -> bool
     let q = p + 3;
     let s = q + 4;
     let e = s + g.sets * 4;
-    let a = full_zeros(t, p + g.three, 3 - g.three, 3);
-    let b = full_zeros(t, q + g.some, 4 - g.some, 4);
+    let a = full_zeros::<3>(t, p + g.three, 3 - g.three);
+    let b = full_zeros::<4>(t, q + g.some, 4 - g.some);
     let c = sets_clean(t, s, g.sets, g.size);
-    let d = full_zeros(t, e, g.rest, 32);
+    let d = full_zeros::<32>(t, e, g.rest);
     a & (b & (c & d))
 }
 

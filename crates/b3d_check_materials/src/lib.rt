@@ -30,9 +30,13 @@ fn ids_valid(t: &[u32], textures: u32, place: usize, count: usize) -> bool
     requires { place + count ≤ length t.now }
     ensures { result ≡ all (holds (texture_id textures)) (take count (drop place t.now)) }
 {
-    t[place..place + count]
-        .iter()
-        .all(|id| (*id == 0xFFFFFFFF) | (*id < textures))
+    for i in place..place + count {
+        let one = t[i];
+        if !((one == 0xFFFFFFFF) | (one < textures)) {
+            return false;
+        }
+    }
+    true
 }
 
 // Returns whether row `i` of table 2, `t`, is sound: its name is in `names`, its first `slots` ids are NONE or below `textures`, the unused ones NONE.

@@ -100,6 +100,12 @@ module _ (s : List ℕ) (b : Cursor) (i : Inside b (length s)) where
               go (Ok k) e = ap many_says (q ∙ ap result_ok e) ∙ sym (counted ∙ ap says_counted e)
               go (Err f) e = ap many_says (q ∙ ap result_ok e) ∙ sym (counted ∙ ap says_counted e)
 
+          pub vrts_all : (k : ℕ) → x ≡ Ok k → Right (Some k)
+          vrts_all k e = vrts_told (Some k) (sym (ap result_ok e))
+
+          pub vrts_bad : (f : Refusal) → x ≡ Err f → Right None
+          vrts_bad f e = vrts_told None (sym (ap result_ok e))
+
 -- ---- MESH
 
 module _ (s : List ℕ) (b : Cursor) (i : Inside b (length s)) (r : std.Option (ℕ × Cursor)) (e : r ≡ number_at s b) where

@@ -42,7 +42,10 @@ fn vrts_vertices(s: &[u8], body: Cursor) -> Option<usize>
         at: start + 12,
         end,
     };
-    b3d_judge_items::whole_items(items, words).ok()
+    let Ok(count) = b3d_judge_items::whole_items(items, words) else {
+        return None;
+    };
+    Some(count)
 }
 
 // Returns how many vertices the first VRTS of the MESH with this `body` has; `None` if there is none or the walk is refused.

@@ -1,11 +1,11 @@
 -- The sets of a vertex, those that are there stored one after the other, then zeros; and how many cells a vertex has.
 use Prim.Native.Nat.{ℕ, zero, suc, ◌+◌, ◌-◌, ◌*◌, ◌<◌, ◌≤◌}
 use native.Mathlib.Omega.{arith}
-use mathlib.Core.Path.{◌≡◌, refl, ap, sym, subst, ◌∙◌}
+use mathlib.Core.Path.{◌≡◌, refl, ap, subst, ◌∙◌}
 use mathlib.Core.List.{List, ◌++◌, append_assoc}
 use lib.ListN.{length, replicate, length-replicate, length-append}
 use lib.Seq.{sets, sets as stored}
-use native.Mathlib.Nat.{suc-mul, mul-le-mul_right, mul_left_comm}
+use native.Mathlib.Nat.{suc-mul}
 use Rattle.shared_table_words.proofs.StoreLaws.{Storing, store_run}
 use Rattle.b3d_read_row_runs.specs.Pieces.{piece_at}
 use Rattle.b3d_read_row_runs.proofs.RunLaws.{length-piece, Wide, parts-wide}
@@ -43,69 +43,64 @@ pub ruleset by_zeros = (same_zeros, last_zeros, last-room)
 -- ---- the sets
 
 -- in out the sets before k stand
-pub record SetsFrom (s : List ℕ) (sets size base : ℕ) (out₀ : List ℕ) (at : ℕ) (out : List ℕ) (k : ℕ) : Type 0 where
+pub record SetsLeft (s : List ℕ) (sets size base : ℕ) (out₀ : List ℕ) (at : ℕ) (out : List ℕ) (k p o : ℕ) : Type 0 where
   pub before : k ≤ sets
   pub few : sets ≤ 8
-  pub place : at + 4 * (sets * size) ≤ length s
-  pub stores : Storing out₀ base (all_sets sets size s at) out (base + 4 * k) (sets_at (sets - k) size s (at + k * (4 * size)) ++ replicate ((8 - sets) * 4) 0)
+  pub cell : o ≡ base + 4 * k
+  pub place : p + 4 * ((sets - k) * size) ≤ length s
+  pub stores : Storing out₀ base (all_sets sets size s at) out o (sets_at (sets - k) size s p ++ replicate ((8 - sets) * 4) 0)
 
 module _ (s : List ℕ) (sets size base : ℕ) (out₀ : List ℕ) (at : ℕ) where
-  pub sets_none : sets ≤ 8 → at + 4 * (sets * size) ≤ length s → SetsFrom s sets size base out₀ at out₀ 0
+  pub sets_none : sets ≤ 8 → at + 4 * (sets * size) ≤ length s → SetsLeft s sets size base out₀ at out₀ 0 at base
   unfolding all_sets
-  sets_none few h =
-      let z : sets - 0 ≡ sets = omega arith in
-      let b : base + 4 * 0 ≡ base = omega arith in
-      let p : at + 0 * (4 * size) ≡ at = omega arith in
-      record { before = omega arith; few = few; place = h; stores = rw (z, b, p) (record { long = refl; same = refl }) }
+  sets_none few h = let z : sets - 0 ≡ sets = omega arith in record { before = omega arith; few = few; cell = omega arith; place = rw z h; stores = rw z (record { long = refl; same = refl }) }
 
-  module _ (out : List ℕ) (k : ℕ) (v : SetsFrom s sets size base out₀ at out k) where
+  module _ (out : List ℕ) (k p o : ℕ) (v : SetsLeft s sets size base out₀ at out k p o) where
     pub sets_long : length out ≡ length out₀
     sets_long = v.stores.long
 
-    module _ (h : sets ≤ k) where
-      pub sets_room : base + 32 ≤ length out₀ → base + 4 * sets + (8 - sets) * 4 ≤ length out
-      sets_room r = omega (arith, v.stores.long, v.few)
+    pub sets_k : k ≤ 8
+    sets_k = omega (arith, v.before, v.few)
 
-      pub sets_done : (put : List ℕ) → put ≡ stored out (base + 4 * sets) (replicate ((8 - sets) * 4) 0) → put ≡ stored out₀ base (all_sets sets size s at)
+    module _ (h : sets ≤ k) where
+      pub sets_room : base + 32 ≤ length out₀ → o + (8 - sets) * 4 ≤ length out
+      sets_room r = omega (arith, v.cell, v.stores.long, v.before, v.few)
+
+      pub sets_done : (put : List ℕ) → put ≡ stored out o (replicate ((8 - sets) * 4) 0) → put ≡ stored out₀ base (all_sets sets size s at)
       unfolding sets_at
       sets_done put e =
           let z : sets - k ≡ 0 = omega arith in
-          let i : sets ≡ k = omega (arith, v.before) in
-          e ∙ ap (λ (n : ℕ). stored out (base + 4 * n) (replicate ((8 - sets) * 4) 0)) i ∙ rw z at v.stores.same
+          e ∙ rw z at v.stores.same
 
     module _ (h : k < sets) where
       later : sets - k ≡ suc (sets - (k + 1))
       later = omega arith
 
-      after : k * (4 * size) + 4 * size ≡ (k + 1) * (4 * size)
-      after = let z : k + 1 ≡ suc k = omega arith in rw z (omega (arith, suc-mul k (4 * size)))
+      words_are : (sets - k) * size ≡ (sets - (k + 1)) * size + size
+      words_are = ap (λ (n : ℕ). n * size) later ∙ suc-mul (sets - (k + 1)) size
 
-      pub set_place : at + k * (4 * size) + 4 * size ≤ length s
-      set_place =
-          let l : (k + 1) * (4 * size) ≤ sets * (4 * size) = mul-le-mul_right (4 * size) (omega arith) in
-          let m : sets * (4 * size) ≡ 4 * (sets * size) = mul_left_comm sets 4 size in
-          omega (arith, v.place, after)
+      pub set_place : p + 4 * size ≤ length s
+      set_place = omega (arith, v.place, words_are)
 
-      pub set_room : base + 32 ≤ length out₀ → base + 4 * k + 4 ≤ length out
-      set_room r = omega (arith, v.stores.long, v.few)
+      pub set_room : base + 32 ≤ length out₀ → o + 4 ≤ length out
+      set_room r = omega (arith, v.cell, v.stores.long, v.few)
 
-      pub set_on : size ≤ 4 → (put : List ℕ) → put ≡ stored out (base + 4 * k) (piece_at size (4 - size) s (at + k * (4 * size))) → SetsFrom s sets size base out₀ at put (k + 1)
+      pub set_on : size ≤ 4 → (put : List ℕ) → put ≡ stored out o (piece_at size (4 - size) s p) → SetsLeft s sets size base out₀ at put (k + 1) (p + 4 * size) (o + 4)
       unfolding sets_at
       set_on le put f =
-          let p = at + k * (4 * size) in
-          let l : base + 4 * k + length (piece_at size (4 - size) s p) ≡ base + 4 * (k + 1) = omega (arith, length-piece size (4 - size) s p) in
-          let q : p + 4 * size ≡ at + (k + 1) * (4 * size) = omega (arith, after) in
+          let l : length (piece_at size (4 - size) s p) ≡ 4 = length-piece size (4 - size) s p ∙ omega arith in
           let z : List ℕ = replicate ((8 - sets) * 4) 0 in
           let e : sets_at (sets - k) size s p ++ z ≡ piece_at size (4 - size) s p ++ (sets_at (sets - (k + 1)) size s (p + 4 * size) ++ z) =
           ap (λ (n : ℕ). sets_at n size s p ++ z) later ∙ append_assoc (piece_at size (4 - size) s p) (sets_at (sets - (k + 1)) size s (p + 4 * size)) z in
           record {
             before = omega arith;
             few = v.few;
-            place = v.place;
-            stores = rw f (rw (l, q) at (store_run v.stores (piece_at size (4 - size) s p) e));
+            cell = omega (arith, v.cell);
+            place = omega (arith, v.place, words_are);
+            stores = rw f (rw l at (store_run v.stores (piece_at size (4 - size) s p) e));
           }
 
-pub ruleset sets_laws = (sets_none, sets_long, sets_room, sets_done, set_place, set_room, set_on)
+pub ruleset sets_laws = (sets_none, sets_long, sets_k, sets_room, sets_done, set_place, set_room, set_on)
 
 -- ---- the row
 

@@ -37,10 +37,14 @@ fn put_sets(file: &[u8], at: usize, sets: usize, size: usize, base: usize, out: 
     requires { (size ≤ largest_set) × (sets ≤ most_sets) × (at + 4 * (sets * size) ≤ length file.now) × (base + 32 ≤ length out.old) }
     ensures { out.new ≡ stored out.old base (all_sets sets size file.now at) }
 {
-    for k in 0..sets {
-        b3d_read_row_runs::put_four(file, at + k * (4 * size), size, base + 4 * k, out);
+    let mut p = at;
+    let mut o = base;
+    for _ in 0..sets {
+        b3d_read_row_runs::put_four(file, p, size, o, out);
+        p += 4 * size;
+        o += 4;
     }
-    zero_sets(8 - sets, base + 4 * sets, out);
+    zero_sets(8 - sets, o, out);
 }
 
 // Stores the row of one vertex in `out` from cell `base` on, from byte `at` of `file`: 3 words of a position, `a` of a normal, `b` of a colour, and `sets`
@@ -95,8 +99,13 @@ pub fn fill_vertices(
     let n = wire::size(sets);
     let z = wire::size(size);
     let words = b3d_rule_widths::vertex_words(flags, sets, size);
-    for i in 0..count {
-        let at = c.at + i * (4 * words);
-        store_vertex(file, at, a, b, n, z, base + i * VERTEX_WIDTH, out);
+    // Place and cell are sums: with products of the row's number the compiler no longer tells vertices with sets from those without before the loop, and one
+    // without takes twice the instructions.
+    let mut at = c.at;
+    let mut o = base;
+    for _ in 0..count {
+        store_vertex(file, at, a, b, n, z, o, out);
+        at += 4 * words;
+        o += VERTEX_WIDTH;
     }
 }

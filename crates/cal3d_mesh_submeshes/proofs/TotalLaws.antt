@@ -2,7 +2,7 @@
 use Rattle.std.specs.Prelude.{Ok, Err}
 use Rattle.std.specs.Prelude as std
 use Rattle.layout.specs.declared.Refusal.{Refusal}
-use Prim.Native.Nat.{ℕ, suc, ◌+◌, ◌-◌, ◌<◌, ◌≤◌}
+use Prim.Native.Nat.{ℕ, suc, ◌+◌, ◌-◌, ◌*◌, ◌<◌, ◌≤◌}
 use native.Mathlib.Omega.{arith}
 use mathlib.Core.Path.{◌≡◌, refl, ap, sym, ◌∙◌}
 use mathlib.Core.List.{List, [], ◌∷◌, ◌++◌, map}
@@ -97,9 +97,10 @@ after_none : (end : ℕ) (o : Result (Step (List Submesh))) → contained_of con
 after_none end (accept x) = ap (λ (t : Contents). Ok (t, record { at = x.place; end = end })) (sym (none_both (contents_in x.value)))
 after_none end (reject n p) = refl
 
--- i of n submeshes have been passed up to c, with these contents
+-- i of n submeshes have been passed up to c, with these contents, each of 24 bytes or more
 pub record Totalling (s : List ℕ) (bones n : ℕ) (from c : Cursor) (i : ℕ) (all : Contents) : Type 0 where
   pub upto : i ≤ n
+  pub passed : from.at + i * 24 ≤ c.at
   pub walk : Walk (read_submesh bones) after s n from c none (n - i) all
   pub takes : Takes from 0 all c
 
@@ -109,6 +110,7 @@ module _ (s : List ℕ) (bones n : ℕ) (from : Cursor) where
       let e : n - 0 ≡ n = omega arith in
       record {
         upto = omega arith;
+        passed = omega arith;
         walk = rw e (walk_start (read_submesh bones) after s n from none inside);
         takes = record { vertices = omega arith; maps = omega arith; influences = omega arith; springs = omega arith; faces = omega arith; before = inside.before; same = refl };
       }
@@ -158,6 +160,7 @@ module _ (s : List ℕ) (bones n : ℕ) (from : Cursor) where
             let e : both all (contents_of x.value) ≡ t = ap (λ (z : Contents). both all z) (sym g.2) ∙ sym k in
             record {
               upto = omega arith;
+              passed = let b = w.passed in omega arith;
               walk = rw e at (walk-on (read_submesh bones) after s n from c none (n - i) all w.walk some (submesh_moves bones) (λ y z. both y (contents_of z)) after_one x g.1 m at p.same p.before (n - (i + 1)) less);
               takes = rw k (record { vertices = omega arith; maps = omega arith; influences = omega arith; springs = omega arith; faces = omega arith; before = p.before; same = p.same ∙ w.walk.same });
             }

@@ -9,11 +9,11 @@ zeros-requires c = search (few_laws, rules)
 pub returns-then-n-eq0 : goal.returns-then-n-eq0
 returns-then-n-eq0 c = search (few_laws, rules)
 
-pub zeros-requires-then-n-most : goal.zeros-requires-then-n-most
-zeros-requires-then-n-most c = search (few_laws, rules)
+pub zeros-requires-then-n : goal.zeros-requires-then-n
+zeros-requires-then-n c = search (few_laws, rules)
 
-pub returns-then-n-most : goal.returns-then-n-most
-returns-then-n-most c = search (few_laws, rules)
+pub returns-then-n : goal.returns-then-n
+returns-then-n c = search (few_laws, rules)
 
 pub zeros-requires-2 : goal.zeros-requires-2
 zeros-requires-2 c = search (few_laws, rules)

@@ -3,14 +3,20 @@ use borrow.Author.Rules.{rules}
 use Rattle.b3d_read_vertex_rows.proofs.SetLaws.{sets_laws}
 use Rattle.b3d_read_vertex_rows.proofs.put_sets.Goals as goal
 
-pub loop-k-init : goal.loop-k-init
-loop-k-init c = search (sets_laws, rules)
+pub loop-init : goal.loop-init
+loop-init c = search (sets_laws, rules)
 
 pub put_four-requires : goal.put_four-requires
 put_four-requires c = search (sets_laws, rules)
 
-pub loop-k-preserved : goal.loop-k-preserved
-loop-k-preserved c = search (sets_laws, rules)
+pub overflow_add-p : goal.overflow_add-p
+overflow_add-p c = search (sets_laws, rules)
+
+pub overflow_add-o : goal.overflow_add-o
+overflow_add-o c = search (sets_laws, rules)
+
+pub loop-preserved : goal.loop-preserved
+loop-preserved c = search (sets_laws, rules)
 
 pub zero_sets-requires : goal.zero_sets-requires
 zero_sets-requires c = search (sets_laws, rules)

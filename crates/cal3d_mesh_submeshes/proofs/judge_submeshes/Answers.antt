@@ -1,4 +1,4 @@
--- `judge_submeshes` answers so many times `read_submesh`. The loop has passed whole submeshes.
+-- `judge_submeshes` answers so many times `read_submesh`. The loop has passed whole submeshes, each of 24 bytes or more, so that the bytes bound its turns.
 use Rattle.std.proofs.lemmas.Result.{err_from_is_err_and}
 use native.Mathlib.Omega.{arith}
 use borrow.Author.Rules.{rules}

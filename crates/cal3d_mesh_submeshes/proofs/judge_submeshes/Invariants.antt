@@ -1,4 +1,4 @@
--- `judge_submeshes` answers so many times `read_submesh`. The loop has passed whole submeshes.
+-- `judge_submeshes` answers so many times `read_submesh`. The loop has passed whole submeshes, each of 24 bytes or more, so that the bytes bound its turns.
 use Rattle.cal3d_mesh_submeshes.proofs.TotalLaws.{Totalling}
 use Rattle.cal3d_mesh_submeshes.proofs.judge_submeshes.Given as goal
 
